@@ -9,8 +9,8 @@ of it, made after them, are each answered as it was before one of them that is d
 all are alike.
 
 With --released 10,000 updates of 256 pages have 33,334 releases beside them: of memory that a page had, or that none has, while an update of
-another page is open. With --replaced a page of 1 GiB is unmapped, and the unmap is never answered; 15,000 small pages replace it, and the
-memory that each of these addresses had is released twice. All of these are right.
+another page is open. With --replaced a page of 1 GiB is unmapped, and the unmap is never answered; 15,000 small pages come and go in its
+place, and the memory that each of these addresses had is released twice. All of these are right.
 
 With --behind a segment that begins with 32,768 pages comes before so many segments of one touch each, and with --behind-one before one
 segment that has as many touches. With --threads each segment is one event, a call, in a layout of 65,535 threads.
@@ -26,7 +26,7 @@ PAGES, READS, THREADS, TABLES = 16384, 32768, 64, 4096
 TOUCHED, UPDATES, TOUCHES = 256, 30000, 35536
 CROWD = 43690                           # updates, and touches
 FREEING, RELEASES = 10000, 33334        # updates, and releases beside them
-REPLACED = 15000                        # pages that replace a large one
+REPLACED = 15000                        # pages that come and go in the place of a large one
 MOST_THREADS = 65535                    # of a segment
 STARTED = 32768                         # pages with which a chain begins
 TOUCH, RELEASE, USER = 5, 6, 1          # kinds of calls; the mode of an access
@@ -140,8 +140,10 @@ def replaced():
     made.events += [call(0, 0, MAP, 0, 2, ALL, 1 << 40), reply(0, 0, DONE), call(0, THREADS, UNMAP, 0)]
     made.log += [0, 2]
     for page in range(REPLACED):
-        made.log.append(len(made.events))
-        made.events += [call(0, 0, MAP, page << 12, 0, ALL, (1 << 41) + (page << 12)), reply(made.log[-1], len(made.log) - 1, DONE)]
+        base, physical, places = page << 12, (1 << 41) + (page << 12), len(made.log)
+        made.log += [len(made.events), len(made.events) + 2]
+        made.events += [call(0, 0, MAP, base, 0, ALL, physical), reply(made.log[-2], places, DONE),
+                        call(0, 0, UNMAP, base), reply(made.log[-1], places + 1, REMOVED, 0, ALL, physical)]
     for page in 2 * list(range(REPLACED)):
         made.release((1 << 40) + (page << 12))
     return made

@@ -23,14 +23,11 @@ FIRST = "segment 0\nyes\norder 0 2\n"               # what is said of the first 
 BLOCK = 4096
 SECONDS = 20
 
-# why an input can't be read, as the system says it
+UNREAD = "cannot read\n"
+
+# why a named file can't be read, as the system says it
 NO_FILE = "cannot read: No such file or directory (os error 2)\n"
 IS_FOLDER = "cannot read: Is a directory (os error 21)\n"
-IS_CLOSED = "cannot read: Bad file descriptor (os error 9)\n"
-HAS_FAILED = "cannot read: Input/output error (os error 5)\n"
-
-IS_TRACE = "this is a trace: leave out --chain\n"        # what is said of the other kind of input
-IS_CHAIN = "this is a chain: use --chain\n"
 
 
 def data_of(name):
@@ -149,7 +146,7 @@ def reads_no_more(program):
         with open(path, "rb", buffering=0) as file:
             seen = program.run(file)
             left = os.lseek(file.fileno(), 0, os.SEEK_CUR)
-        yield is_said(f"{name}, and more", seen, 1, text, IS_TRACE if data.startswith(b"NRVT") else "")
+        yield is_said(f"{name}, and more", seen, 1, text)
         yield f"{name}: no more than its block is read", left == -(-shows // BLOCK) * BLOCK, left
         ran = subprocess.Popen(program.words(), stdin=subprocess.PIPE, stdout=subprocess.PIPE, stderr=subprocess.DEVNULL, bufsize=0)
         put_open(ran.stdin, data)
@@ -177,10 +174,10 @@ def failing_reads(program):
         for more in ((), ("--quiet",)):
             seen = program.run(data, "--chain", *more, env=program.shimmed(FAIL_AT=at))
             text = "" if more or at < first else FIRST
-            yield is_said(f"a read that fails at byte {at}, {more}", seen, 2, text, HAS_FAILED)
+            yield is_said(f"a read that fails at byte {at}, {more}", seen, 2, text, UNREAD)
     with open(path, "rb") as file:
         seen = program.run(file, env=program.shimmed(FAIL_READ=2))
-    yield is_said("a second read that fails", seen, 2, "", HAS_FAILED)
+    yield is_said("a second read that fails", seen, 2, "", UNREAD)
     seen = program.run(subprocess.DEVNULL, "--chain", path)
     yield is_said("a chain by its name", seen, 0, wanted("two_segments"))
     yield is_said("standard input by its name", program.run(data, "--chain", "-"), 0, wanted("two_segments"))
@@ -188,10 +185,10 @@ def failing_reads(program):
     yield is_said("a file that there is not", program.run(subprocess.DEVNULL, "--chain", none), 2, "", f"{none}: {NO_FILE}")
     yield is_said("a folder by its name", program.run(subprocess.DEVNULL, "--chain", "--quiet", "."), 2, "", f".: {IS_FOLDER}")
     folder = os.open(".", os.O_RDONLY)
-    yield is_said("an input that is a folder", program.run(folder), 2, "", IS_FOLDER)
+    yield is_said("an input that is a folder", program.run(folder), 2, "", UNREAD)
     os.close(folder)
     closed = shell(program, "exec \"$0\" audit --chain <&-")
-    yield is_said("a closed input", closed, 2, "", IS_CLOSED)
+    yield is_said("a closed input", closed, 2, "", UNREAD)
 
 
 def shell(program, line):
@@ -220,11 +217,11 @@ def words(program):
         status, text, errors = program.run(data_of("two_segments"), *more)
         yield f"the words {more}", status == 2 and not text and errors, (status, text, errors)
     with open(TRACE, "rb") as trace:
-        yield is_said("a trace as a chain", program.run(trace), 1, "segment 0\nno 1 Format BadMagic\n", IS_TRACE)
+        yield is_said("a trace as a chain", program.run(trace), 1, "segment 0\nno 1 Format BadMagic\n")
     chain = data_of("map_then_resolve")
     done = subprocess.run([program.path, "audit"], input=chain, capture_output=True)
     said = done.returncode, done.stdout.decode(), done.stderr.decode()
-    yield is_said("a chain as a trace", said, 1, "no 1 Format BadMagic\n", IS_CHAIN)
+    yield is_said("a chain as a trace", said, 1, "no 1 Format BadMagic\n")
 
 
 def refused_growths(program):
@@ -289,11 +286,12 @@ def pages_at_failing_ends(program):
         data, path = data_of(name), f"{CHAINS}/{name}.chain"
         for ends in ({"SHORT_READ": 7}, {"SHORT_READ": 1000, "INTERRUPTS": 2, "SHORT_WRITE": 5}):
             yield is_said(f"{name}, {asked}, {ends}", program.run(data, *asked, env=program.shimmed(**ends)), status, text)
-        yield is_said(f"{name} by its name, {asked}", program.run(subprocess.DEVNULL, *asked, path), status, text)
+        remark = "" if data else f"{path}: the input is empty\n"
+        yield is_said(f"{name} by its name, {asked}", program.run(subprocess.DEVNULL, *asked, path), status, text, remark)
         for at in (0, 20, len(data) // 2):
             if at < len(data) or at == 0:
                 seen = program.run(data, *asked, env=program.shimmed(FAIL_AT=at, SHORT_READ=10))
-                yield is_said(f"{name}, {asked}, a read that fails at byte {at}", seen, 2, "", HAS_FAILED)
+                yield is_said(f"{name}, {asked}, a read that fails at byte {at}", seen, 2, "", UNREAD)
         if text:
             yield is_said(f"{name}, {asked}, a write that fails", program.run(data, *asked, env=program.shimmed(FAIL_WRITE=1)), 2, "", "cannot write\n")
             with open("/dev/full", "wb") as full:

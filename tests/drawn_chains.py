@@ -8,7 +8,7 @@ from dataclasses import dataclass, field
 from typing import NamedTuple
 
 import recording
-from recording import ACCESS, BYTES, EXEC, FAULT, MAP, PROTECT, RESOLVE, UNMAP, Space
+from recording import ACCESS, BYTES, EXEC, MAP, PROTECT, RESOLVE, UNMAP, Space
 
 TOUCH, RELEASE = 5, 6
 REGIONS = {4: [0, 0x7f8000000000, 0xffff800000000000, 0xffffff8000000000],
@@ -102,60 +102,54 @@ def look(space, address):
     return None if base is None else (base, *space.pages[base])
 
 
-def allowed(segment, call, end):
-    """From how many entries the touch may be answered: of each number, whether all that was flushed is there, and nothing foreseen."""
-    address, replies = segment.events[call].address, segment.replies()
-    seen = [look(space, address) for space in segment.moments]
-    changes = [place for place in range(len(segment.log)) if seen[place] != seen[place + 1]]
-    flushed = [place for place in changes if replies.get(segment.log[place], end) < call]
-    foreseen = [place for place in changes if segment.log[place] > end]
-    return [n for n in range(len(seen)) if all(place < n for place in flushed) and all(place >= n for place in foreseen)]
+def takes_away(before, after):
+    """Of pages, or None: the first is there, and the second isn't the same with all the rights of the first."""
+    return bool(before) and (not after or before[:-1] != after[:-1] or before[-1] & after[-1] != before[-1])
 
 
-def answer_at(segment, call, n):
-    asked = segment.events[call]
-    return segment.moments[n].access(asked.address, asked.size, asked.rights)
+class Run(NamedTuple):
+    """The segments up to one as one run: a space after each number of its entries, and of each entry when it was called and answered, by
+    events of the last segment: -1 where that was before, and None where it never was. `before` entries are of the segments before it."""
+    spaces: list[Space]
+    entries: list[tuple]
+    before: int
 
 
-def lagging(segment, call, end):
-    """What the touch may be answered from the table of its replica where that lags: the fault of no page, or nothing."""
+def run_of(segment):
+    spaces, entries = [], []
+    for each in segment.earlier:
+        replies = each.replies()
+        spaces += each.moments[:-1]
+        entries += [(-1, -1 if number in replies else None) for number in each.log]
+    replies = segment.replies()
+    return Run(spaces + segment.moments, entries + [(number, replies.get(number)) for number in segment.log], len(entries))
+
+
+def allowed(segment, run, call, end):
+    """From how many entries of the run the touch may be answered: of each number, whether no update behind it is over that takes the page
+    away (or changes anything where there is none), and nothing is foreseen."""
+    pages = [look(space, segment.events[call].address) for space in run.spaces]
+    changes = [place for place in range(len(run.entries)) if pages[place] != pages[place + 1]]
+    over = [place for place in changes if run.entries[place][1] is not None and run.entries[place][1] < call]
+    foreseen = min((place for place in changes if run.entries[place][0] > end), default=len(run.entries))
+    return [n for n in range(foreseen + 1)
+            if not any(place >= n and (pages[n] is None or takes_away(pages[place], pages[place + 1])) for place in over)]
+
+
+def answer_in(space, asked):
+    return space.access(asked.address, asked.size, asked.rights)
+
+
+def lagging(segment, call, last):
+    """What the touch may be answered from the table of its replica where that lags: the fault of no page, or nothing. `last` is the most
+    entries of its segment from which it may be answered."""
     asked, known = segment.events[call], [0]
     for each in segment.events[:call]:
         if isinstance(each, Reply):
             other = segment.events[each.call]
             if other.replica == asked.replica and other.kind < TOUCH:
                 known.append(each.at + other.is_update())
-    last = allowed(segment, call, end)[-1]
-    return {answer_at(segment, call, m) for m in range(max(known), last + 1) if segment.moments[m].at(asked.address) is None}
-
-
-def widens(before, after):
-    """Pages, by base (or of one address), size, physical address and rights: the second is the first with rights that include those before."""
-    return bool(before and after) and before[:-1] == after[:-1] and before[-1] & after[-1] == before[-1]
-
-
-def kept(segment, call, end):
-    """What the touch may be answered by rights that its page had before more were added: page faults. Where segments before it left updates
-    open, it may be more than that."""
-    asked, spaces, ends, answers = segment.events[call], [], set(), set()
-    for each in segment.earlier:
-        ends |= set() if each.is_closed else set(range(len(spaces), len(spaces) + len(each.moments)))
-        spaces += each.moments
-    ends |= {len(spaces) + n for n in allowed(segment, call, end)}
-    spaces += segment.moments
-    pages = [look(space, asked.address) for space in spaces]
-    for m in ends:
-        while m and m - 1 not in ends and (pages[m - 1] == pages[m] or widens(pages[m - 1], pages[m])):
-            m -= 1
-            answers.add(spaces[m].access(asked.address, asked.size, asked.rights))
-    return {answer for answer in answers if answer[0] == FAULT and answer[3] & 1}
-
-
-def lingering(segment, call):
-    """What the touch may still be answered from segments before it, if updates are open there; it may be more than that."""
-    asked = segment.events[call]
-    spaces = [space for each in segment.earlier if not each.is_closed for space in each.moments]
-    return {space.access(asked.address, asked.size, asked.rights) for space in spaces}
+    return {answer_in(space, asked) for space in segment.moments[max(known):last + 1] if space.at(asked.address) is None}
 
 
 # ---- a segment ----
@@ -243,8 +237,8 @@ class Making:
         for call, end in sorted(made.replies().items()):
             if made.events[call].kind == TOUCH:
                 begin, now = self.logged[call]
-                moments = {answer_at(made, call, n): n for n in allowed(made, call, end)}
-                present = {answer_at(made, call, n) for n in range(begin, now + 1)}
+                moments = {answer_in(made.moments[n], made.events[call]): n for n in allowed(made, run_of(made), call, end)}
+                present = {answer_in(space, made.events[call]) for space in made.moments[begin:now + 1]}
                 answer = self.draw.choice(sorted(moments.keys() - present) or sorted(moments))
                 look = "of an earlier moment" if moments[answer] < begin else "of a later moment"
                 made.looks[call] = "of the present" if answer in present else look

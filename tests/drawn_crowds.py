@@ -5,7 +5,7 @@ its own. Touches are made among them, each answered as the address looked at a m
 How the address looked after each update is put down as it is made, and what may be answered is looked up in all moments.
 """
 import recording
-from drawn_chains import REGIONS, TOUCH, Call, Layout, Reply, Segment, widens
+from drawn_chains import REGIONS, TOUCH, Call, Layout, Reply, Segment, takes_away
 from recording import ALLOWED, BYTES, DONE, FAULT, MAP, PROTECT, UNMAP, Space
 
 SIZES = ("4 KiB", "2 MiB", "1 GiB")
@@ -26,8 +26,8 @@ class Crowd:
         self.address = draw.choice(REGIONS[layout.levels]) + draw.randrange(BYTES[2])
         self.frames = [draw.randrange(1 << 20) << 30 for _ in range(draw.choice([1, 2, 5]))]
         self.seen = [None]
-        self.flushed = 0                            # entries up to the last change that was answered
-        self.open, self.touches = [], {}            # touches; by each its moments
+        self.over, self.taken = 0, 0                # entries up to the last change that was answered, and to the last such that took away
+        self.open, self.touches = [], {}            # touches; by each what was over, the moments from which it may be answered, and its reply
 
     def update(self, is_answered):
         """By a thread of its own: one whose call isn't answered makes no other."""
@@ -46,7 +46,8 @@ class Crowd:
         if is_answered:
             made.events.append(Reply(number, len(made.log) - 1, answer))
             if self.seen[-1] != self.seen[-2]:
-                self.flushed = len(made.log)
+                self.over = len(made.log)
+                self.taken = self.over if takes_away(*self.seen[-2:]) else self.taken
 
     def touch(self):
         draw, number = self.draw, len(self.made.events)
@@ -56,7 +57,7 @@ class Crowd:
             replica, access, mode = draw.randrange(self.made.layout.replicas), draw.randrange(3), draw.randrange(2)
             self.made.events.append(Call(replica, thread, TOUCH, address, access, mode))
             self.open.append(number)
-            self.touches[number] = [self.flushed]
+            self.touches[number] = [self.taken, self.over]
 
     def reply(self):
         number = self.open.pop(self.draw.randrange(len(self.open)))
@@ -80,47 +81,39 @@ class Crowd:
         kinds = []
         while self.open:
             self.reply()
-        for number, (first, entries, end) in self.touches.items():
-            last = self.last_of(entries)
-            self.touches[number] = first, last, end
-            page = self.seen[self.draw.randint(first, last)]
+        for number, (taken, over, entries, end) in self.touches.items():
+            moments = [n for n in range(taken, self.last_of(entries) + 1) if self.seen[n] or n >= over]
+            self.touches[number] = moments, end
+            page = self.seen[self.draw.choice(moments)]
             answer = self.answer(number, page)
             self.made.events[end] = self.made.events[end]._replace(answer=answer)
-            kinds += kinds_of(answer, page, *(self.answer(number, self.seen[n]) for n in (first, last)))
+            kinds += kinds_of(answer, page, *(self.answer(number, self.seen[n]) for n in (moments[0], moments[-1])))
         return kinds
 
     # ---- one wrong answer
 
     def is_stale(self, number, answer):
-        """No moment gives that answer, not even one at which the table of the touch's replica may lag; nor do rights that were kept."""
-        first, last, _ = self.touches[number]
+        """No moment gives that answer, not even one at which the table of the touch's replica may lag."""
+        moments, _ = self.touches[number]
         replica, events = self.made.events[number].replica, self.made.events
         known = max((each.at + 1 for each in events[:number]
                      if isinstance(each, Reply) and events[each.call].kind < TOUCH and events[each.call].replica == replica), default=0)
-        pages = {*self.seen[first:last + 1], *(page for page in self.seen[known:last + 1] if page is None)}
-        return answer not in {self.answer(number, page) for page in pages} and not self.is_kept(number, answer)
-
-    def is_kept(self, number, answer):
-        """It is a page fault by rights that the page had before more were added."""
-        n, is_of_page = self.touches[number][0], answer[0] == FAULT and answer[3] & 1
-        while is_of_page and n and (self.seen[n - 1] == self.seen[n] or widens(self.seen[n - 1], self.seen[n])):
-            n -= 1
-            if self.answer(number, self.seen[n]) == answer:
-                return True
-        return False
+        pages = {*(self.seen[n] for n in moments), *(page for page in self.seen[known:moments[-1] + 1] if page is None)}
+        return answer not in {self.answer(number, page) for page in pages}
 
     def wrong(self, number, name):
         """An answer of that kind which might be wrong."""
-        draw, (first, last, end) = self.draw, self.touches[number]
+        draw, (moments, end) = self.draw, self.touches[number]
         answer, call = self.made.events[end].answer, self.made.events[number]
         if name == "over":
-            return self.answer(number, self.seen[first - 1]) if first else answer
+            over = set(range(moments[-1])).difference(moments)
+            return self.answer(number, self.seen[draw.choice(sorted(over))]) if over else answer
         if name == "foreseen":
-            return self.answer(number, self.seen[min(last + 1, len(self.seen) - 1)])
+            return self.answer(number, self.seen[min(moments[-1] + 1, len(self.seen) - 1)])
         if name in ("another frame", "another page offset"):
             return (ALLOWED, 0, 0, answer[3] ^ (1 << 30 if name == "another frame" else draw.choice([1, 1 << 12, 1 << 21])))
         if name == "other rights":
-            pages = [page for page in self.seen[first:last + 1] if page]
+            pages = [self.seen[n] for n in moments if self.seen[n]]
             return self.answer(number, (*draw.choice(pages)[:2], draw.randrange(8))) if pages else answer
         if name == "no such fault":
             return (FAULT, 0, 0, self.answer(number, None)[3] ^ draw.choice([1, 2, 4, 16]))
@@ -132,7 +125,7 @@ class Crowd:
         for number in self.draw.sample(numbers, min(len(numbers), 8)):
             answer = self.wrong(number, name)
             if self.is_stale(number, answer):
-                end = self.touches[number][2]
+                _, end = self.touches[number]
                 self.made.events[end] = self.made.events[end]._replace(answer=answer)
                 return number
         return None

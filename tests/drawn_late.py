@@ -1,5 +1,6 @@
 #!/usr/bin/env python3
-"""Chains of three segments in which late faults, releases and updates that are never answered come often; and what is to be said of each.
+"""Chains of three segments in which late faults, releases, updates that are never answered, and maps and protects behind them come often;
+and what is to be said of each.
 
 What is right is found from the joined run, with a space after each number of its entries, by the rule as docs/FORMATS.md states it: each n
 is tried. Nothing of the second auditor is used, which is compared with this.
@@ -20,11 +21,15 @@ from recording import ACCESS, ALLOWED, BYTES, DONE, FAULT, MAP, PROTECT, RESOLVE
 TOUCH, RELEASE = 5, 6
 SEGMENTS, PAGES, FRAMES = 3, 6, 5
 RIGHT = ["touch at a moment", "touch at an earlier segment's moment", "touch of a table that lags", "touch by rights that were kept",
+         "touch of a page behind which an update was answered", "touch of a page of an earlier segment behind which an update was answered",
          "release of memory that had a page", "release of memory that an open map will have", "release of memory that never had a page"]
 STALE = [f"stale: {what}" for what in ("allowed", "a fault of a page", "a fault by rights that are gone", "a fault of no page",
-                                       "a fault of no page that its replica had")]
+                                       "a fault of no page that its replica had", "a page whose unmap is open, and what came behind was taken away")]
 REACHABLE = [f"reachable: {how}" for how in ("nobody takes the page away", "it is taken away later", "it is never over",
-                                             "it was never over before the cut", "answered otherwise")]
+                                             "it was never over before the cut", "answered otherwise",
+                                             "it is taken away later, and an update behind that was answered",
+                                             "it is never over, and an update behind that was answered",
+                                             "it was never over before the cut, and an update behind that was answered")]
 COMMON = (RIGHT + STALE + REACHABLE + ["update that is never answered", "release without a reply"]
           + [f"{fault} in segment {k} of three" for fault in ("Stale", "Reachable") for k in range(SEGMENTS)])
 KINDS = [MAP] * 5 + [UNMAP] * 5 + [PROTECT] * 6 + [RESOLVE, ACCESS, ACCESS] + [TOUCH] * 12 + [RELEASE] * 5
@@ -76,16 +81,29 @@ class Run:
         seen = self.looks(address)
         return [place for place in range(len(self.entries)) if seen[place] != seen[place + 1]]
 
+    def taking(self, address):
+        """The places of the entries that take the address's page away, or some right of it."""
+        seen = self.looks(address)
+        return [place for place in self.changes(address) if takes_away(seen[place], seen[place + 1])]
+
     # ---- the rules, word by word; `made` and `answered` are events of the joined run
 
     def foreseen(self, address, answered):
         """The least entry that changes how the address looks and was called after that, or the log's length."""
         return min((place for place in self.changes(address) if self.entries[place][1] > answered), default=len(self.entries))
 
+    def forbidding(self, address, n, made):
+        """The updates from n entries on which forbid that a touch is answered from these: they were answered before it was made."""
+        those = self.taking(address) if self.looks(address)[n] else self.changes(address)
+        return [place for place in those if place >= n and (self.entries[place][2] or 1 << 60) < made]
+
     def allowed(self, address, made, answered):
-        """Every n from which a touch may be answered: it has each change that was answered before, and none that was called after."""
-        over = max((place for place in self.changes(address) if (self.entries[place][2] or 1 << 60) < made), default=-1)
-        return range(over + 1, self.foreseen(address, answered) + 1)
+        """Every n from which a touch may be answered: nothing that is behind them is over, and none of them was called after it."""
+        return [n for n in range(self.foreseen(address, answered) + 1) if not self.forbidding(address, n, made)]
+
+    def is_behind(self, address, n, made):
+        """An update from n entries on was answered before, though they are allowed."""
+        return any(place >= n and (self.entries[place][2] or 1 << 60) < made for place in self.changes(address))
 
     def answer(self, n, touch):
         """What an access is answered after so many entries."""
@@ -97,17 +115,20 @@ class Run:
         touch, made, answered = segment.events[number], segment.first + number, segment.first + end
         right, seen = {}, self.looks(touch.address)
         for n in reversed(self.allowed(touch.address, made, answered)):
-            right.setdefault(self.answer(n, touch), "at an earlier segment's moment" if n < segment.before else "at a moment")
-        for n in self.allowed(touch.address, made, answered):
-            for m in range(n - 1, -1, -1):
-                if not widens(seen[m], seen[m + 1]):
-                    break
-                if self.answer(m, touch)[0] == FAULT and self.answer(m, touch)[3] & 1:
-                    right.setdefault(self.answer(m, touch), "by rights that were kept")
+            right.setdefault(self.answer(n, touch), self.reason(touch.address, n, made, n < segment.before))
         for m in range(segment.before + self.known(segment, touch.replica, number), self.foreseen(touch.address, answered) + 1):
             if seen[m] is None:
                 right.setdefault(self.answer(m, touch), "of a table that lags")
         return right
+
+    def reason(self, address, n, made, is_earlier):
+        """Why a touch is answered right from n entries."""
+        if not self.is_behind(address, n, made):
+            return "at an earlier segment's moment" if is_earlier else "at a moment"
+        last = max(place for place in self.changes(address) if (self.entries[place][2] or 1 << 60) < made)
+        if not any(n <= place < last for place in self.taking(address)):
+            return "by rights that were kept"
+        return f"of a page {'of an earlier segment ' * is_earlier}behind which an update was answered"
 
     def known(self, segment, replica, number):
         """How many of the segment's entries the replica was known to have applied."""
@@ -140,15 +161,15 @@ class Run:
         return None
 
 
-def widens(before, after):
-    """An entry leaves an address as it looked, or adds rights to its page and does nothing else."""
-    return before == after or bool(before and after) and before[:3] == after[:3] and before[3] & after[3] == before[3]
+def takes_away(before, after):
+    """A page covered the address before, and not the same one after, or with fewer rights."""
+    return bool(before) and (not after or before[:3] != after[:3] or before[3] & after[3] != before[3])
 
 
 class Drawing:
     def __init__(self, draw):
         self.draw, self.replicas = draw, draw.choice([1, 2, 2, 3, 4])
-        self.threads = draw.choice([2, 3, 4])
+        self.threads = draw.choice([2, 3, 4, 5])
         self.run = Run(draw.choice([64, 64, 4096]))
         self.region = draw.choice([0, 0x7f8000000000])
         self.kinds = collections.Counter()
@@ -160,10 +181,10 @@ class Drawing:
     def release(self, replica, thread):
         """A release: mostly of memory in which no page lies now, though one has."""
         pages = self.run.moments[-1].pages.values()
-        once = [phys for space in self.run.moments[-8:] for _, phys, _ in space.pages.values()]
+        once = [phys for space in self.run.moments[-8:] for _, phys, _ in space.pages.values()] + 9 * [page[2] for page in self.taken()]
         for last in [False] * 8 + [True]:
-            size = self.draw.choice([0, 0, 0, 0, 1, 2])
-            low = self.memory(size) if not once or self.draw.random() < 0.3 else self.draw.choice(once) // BYTES[size] * BYTES[size]
+            size = self.draw.choice([0, 0, 0, 0, 0, 0, 1, 2])
+            low = self.memory(size) if not once or self.draw.random() < 0.2 else self.draw.choice(once) // BYTES[size] * BYTES[size]
             is_free = all(low + BYTES[size] <= phys or phys + BYTES[of] <= low for of, phys, _ in pages)
             if last or is_free or self.draw.random() < 0.03:
                 return Call(replica, thread, RELEASE, 0, size, 0, low)
@@ -178,66 +199,118 @@ class Drawing:
             base = draw.choice(self.run.entries[-5:])[0].address
         if kind == RELEASE:
             return self.release(replica, thread)
+        taken = [page[0] for page in self.taken()]
+        holes = [each for each in taken if self.run.moments[-1].at(each) is None]
+        if kind == MAP and holes and draw.random() < 0.7:
+            base = draw.choice(holes)
+        if kind in (TOUCH, PROTECT) and taken and draw.random() < 0.4:
+            base = draw.choice(taken)
         if kind == MAP:
             size = draw.choice([0, 0, 0, 0, 1, 1, 2])
             return Call(replica, thread, MAP, base // BYTES[size] * BYTES[size], size, draw.randrange(8), self.memory(size))
         if kind in (UNMAP, PROTECT):
-            return Call(replica, thread, kind, base, 0, draw.choice([0, 1, 3, 7, 7, 4, 5]) if kind == PROTECT else 0)
+            more = self.run.moments[-1].pages[base][2] if base in pages and draw.random() < 0.5 else 0
+            return Call(replica, thread, kind, base, 0, more | draw.choice([0, 1, 3, 7, 7, 4, 5]) if kind == PROTECT else 0)
         return Call(replica, thread, kind, base + draw.randrange(4096), *((draw.randrange(3), draw.randrange(2)) if kind != RESOLVE else (0, 0)))
+
+    def taken(self):
+        """Pages that an unmap took which isn't answered: base, size, physical address and rights."""
+        run = self.run
+        return [(call.address, *run.moments[place].pages[call.address]) for place, (call, _, answered) in [*enumerate(run.entries)][-12:]
+                if call.kind == UNMAP and answered is None and call.address in run.moments[place].pages]
 
     def segment(self):
         draw, run = self.draw, self.run
-        events = sum(len(each.events) for each in run.segments)
-        made = Segment(events, len(run.entries))
-        run.segments.append(made)
-        begun, held, answers, known, stuck = {}, {}, [], 0, set()
-
-        def place(number):
-            call, space = made.events[number], Space(run.moments[-1].limit, run.moments[-1].pages)
-            answers.append(space.apply(call.kind, call.address, call.size, call.rights, call.physical))
-            run.moments.append(space)
-            run.entries.append([call, made.first + number, None])
-            made.log.append(number)
-
-        def answer(thread):
-            nonlocal known
-            number = begun.pop(thread)
-            call, event = made.events[number], made.first + len(made.events)
-            if call.kind <= PROTECT:
-                if number not in made.log:
-                    place(number)
-                at = made.log.index(number)
-                run.entries[made.before + at][2] = event
-                known, reply = max(known, at + 1), Reply(number, at, answers[at])
-            elif call.kind < TOUCH:
-                at = draw.randint(held[number], len(made.log))
-                known, reply = max(known, at), Reply(number, at, run.moments[made.before + at].read(call.kind, call.address, call.size, call.rights))
-            else:
-                other = call.kind == RELEASE and draw.random() < 0.02
-                reply = Reply(number, draw.choice([0, 7, 1 << 31]), (FAULT, 0, 0, 4) if other else (DONE, 0, 0, 0))
-            made.events.append(reply)
-
+        self.made = Segment(sum(len(each.events) for each in run.segments), len(run.entries))
+        run.segments.append(self.made)
+        self.begun, self.held, self.answers, self.known, self.stuck = {}, {}, [], 0, set()
         for _ in range(draw.choice([10, 20, 30])):
             thread = draw.randrange(self.threads)
-            if thread in stuck:
-                continue
-            if thread not in begun:
-                begun[thread] = number = len(made.events)
-                held[number] = known
-                made.events.append(self.request(thread))
-                if made.events[number].kind <= PROTECT and draw.random() < 0.1 and len(stuck) + 1 < self.threads:
-                    stuck.add(thread)
-                    place(number)
-            elif made.events[begun[thread]].kind > PROTECT or draw.random() < 0.5:
-                answer(thread)
-            elif begun[thread] not in made.log:
-                place(begun[thread])
-        for thread in sorted(begun):
-            if thread not in stuck and draw.random() < 0.5:
-                answer(thread)
-            elif made.events[begun[thread]].kind <= PROTECT and begun[thread] not in made.log and draw.random() < 0.6:
-                place(begun[thread])
-        return made
+            if thread not in self.stuck and draw.random() < 0.07:
+                self.burst()
+            elif thread not in self.stuck:
+                self.step(thread)
+        for thread in sorted(self.begun):
+            if thread not in self.stuck and draw.random() < 0.5:
+                self.answer(thread)
+            elif self.is_unplaced(thread) and draw.random() < 0.6:
+                self.place(self.begun[thread])
+        return self.made
+
+    def step(self, thread):
+        if thread not in self.begun:
+            call = self.request(thread)
+            self.begin(call, call.kind <= PROTECT and self.draw.random() < (0.2 if call.kind == UNMAP else 0.1))
+        elif self.made.events[self.begun[thread]].kind > PROTECT or self.draw.random() < 0.5:
+            self.answer(thread)
+        elif self.is_unplaced(thread):
+            self.place(self.begun[thread])
+
+    def burst(self):
+        """A page is unmapped or loses rights, and that is open while other updates of its address are answered; then it is touched, and its
+        memory is released."""
+        draw, run = self.draw, self.run
+        free, pages = [thread for thread in range(self.threads) if thread not in self.begun], run.moments[-1].pages
+        if len(free) < 2 or not pages:
+            return
+        (slow, quick), base = draw.sample(free, 2), draw.choice(sorted(pages))
+        size, physical, _ = pages[base]
+        kind = draw.choice([UNMAP, UNMAP, PROTECT])
+        self.begin(Call(draw.randrange(self.replicas), slow, kind, base), draw.random() < 0.5)
+        if slow not in self.stuck:
+            self.place(self.begun[slow])
+        then = draw.choice([[MAP], [MAP, PROTECT], [MAP, UNMAP], [MAP, UNMAP, MAP]] if kind == UNMAP else [[PROTECT], [PROTECT, UNMAP], [UNMAP]])
+        for each in [*then, *draw.choices([TOUCH, TOUCH, RELEASE], k=draw.randrange(1, 4))]:
+            call = Call(draw.randrange(self.replicas), quick, each, base)
+            if each == MAP:
+                call = call._replace(size=draw.choice([0, size]), rights=draw.randrange(8), physical=self.memory(size))
+            elif each == PROTECT:
+                call = call._replace(rights=draw.choice([0, 3, 7, 7, 7]))
+            elif each == TOUCH:
+                call = call._replace(address=base + draw.randrange(4096), size=draw.randrange(3), rights=draw.randrange(2))
+            elif each == RELEASE:
+                call = call._replace(address=0, size=draw.choice([0, size]), physical=physical)
+            self.begin(call, False)
+            self.answer(quick)
+
+    def begin(self, call, is_stuck):
+        """Makes the call; an update that is stuck gets no answer in this segment."""
+        number = len(self.made.events)
+        self.begun[call.thread], self.held[number] = number, self.known
+        self.made.events.append(call)
+        if is_stuck and len(self.stuck) + 1 < self.threads:
+            self.stuck.add(call.thread)
+            self.place(number)
+
+    def is_unplaced(self, thread):
+        number = self.begun[thread]
+        return self.made.events[number].kind <= PROTECT and number not in self.made.log
+
+    def place(self, number):
+        made, run = self.made, self.run
+        call, space = made.events[number], Space(run.moments[-1].limit, run.moments[-1].pages)
+        self.answers.append(space.apply(call.kind, call.address, call.size, call.rights, call.physical))
+        run.moments.append(space)
+        run.entries.append([call, made.first + number, None])
+        made.log.append(number)
+
+    def answer(self, thread):
+        draw, made, run, number = self.draw, self.made, self.run, self.begun.pop(thread)
+        call, event = made.events[number], made.first + len(made.events)
+        if call.kind <= PROTECT:
+            if number not in made.log:
+                self.place(number)
+            at = made.log.index(number)
+            run.entries[made.before + at][2] = event
+            self.known, reply = max(self.known, at + 1), Reply(number, at, self.answers[at])
+        elif call.kind < TOUCH:
+            at = draw.randint(self.held[number], len(made.log))
+            self.known = max(self.known, at)
+            reply = Reply(number, at, run.moments[made.before + at].read(call.kind, call.address, call.size, call.rights))
+        else:
+            other = call.kind == RELEASE and draw.random() < 0.02
+            reply = Reply(number, draw.choice([0, 7, 1 << 31]), (FAULT, 0, 0, 4) if other else (DONE, 0, 0, 0))
+        made.events.append(reply)
 
     def settle(self, wrong):
         """The answers of the last segment's touches, some of them wrong. Its first fault."""
@@ -259,9 +332,9 @@ class Drawing:
         draw, run, call = self.draw, self.run, made.events[number]
         right = run.right_answers(made, number, end)
         answer = draw.choice(sorted([each for each, why in right.items() if why != "at a moment"] or right))
-        gone = self.gone(call, made.first + number, made.first + end) - right.keys()
-        if wrong and gone and draw.random() < 0.6:
-            answer = draw.choice(sorted(gone))
+        gone = self.gone(call, made.first + number, made.first + end)
+        if wrong and gone.keys() - right.keys() and draw.random() < 0.6:
+            answer = draw.choice(sorted(gone.keys() - right.keys()))
         elif wrong and draw.random() < 0.3:
             others = {run.answer(n, call) for n in range(len(run.moments))}
             others |= {(FAULT, 0, 0, code | bit) for _, _, _, code in [Space(1).access(0, call.size, call.rights)] for bit in (0, 1)}
@@ -269,21 +342,26 @@ class Drawing:
         made.events[end] = made.events[end]._replace(answer=answer)
         if answer in right:
             self.kinds[f"touch {right[answer]}"] += 1
+        elif gone.get(answer):
+            self.kinds["stale: a page whose unmap is open, and what came behind was taken away"] += 1
         elif answer[0] == ALLOWED:
             self.kinds["stale: allowed"] += 1
         elif answer[3] & 1:
-            is_gone = answer in self.gone(call, made.first + number, made.first + end)
-            self.kinds["stale: a fault by rights that are gone" if is_gone else "stale: a fault of a page"] += 1
+            self.kinds[f"stale: a fault {'by rights that are gone' if answer in gone else 'of a page'}"] += 1
         else:
             had = None in run.looks(call.address)[made.before:run.foreseen(call.address, made.first + end) + 1]
             self.kinds["stale: a fault of no page" + " that its replica had" * had] += 1
         return answer not in right
 
     def gone(self, call, made, answered):
-        """Page faults by the rights that its page had before what the touch has to see."""
-        first = self.run.allowed(call.address, made, answered)[0]
-        before = {self.run.answer(n, call) for n in range(first)}
-        return {answer for answer in before if answer[0] == FAULT and answer[3] & 1}
+        """Answers as at moments that are over; of each whether it is by a page of which something was taken away first by who still is open."""
+        run, gone = self.run, {}
+        for n in range(run.foreseen(call.address, answered)):
+            over = run.forbidding(call.address, n, made)
+            if over:
+                is_open = run.looks(call.address)[n] and over[0] > min(place for place in run.taking(call.address) if place >= n)
+                gone[run.answer(n, call)] = is_open and gone.get(run.answer(n, call), True)
+        return gone
 
     def of_release(self, made, number, end):
         """What is to be said of the release, and why."""
@@ -298,12 +376,13 @@ class Drawing:
             later = any(call.physical <= entry[0].physical < call.physical + BYTES[call.size] for entry in opened)
             return "release of memory that an open map will have" if later else "release of memory that had a page"
         address, n = found
-        ending = min((place for place in run.changes(address) if place >= n), default=None)
+        ending = min((place for place in run.taking(address) if place >= n), default=None)
         if ending is None or run.entries[ending][1] > made.first + number:
             return "reachable: nobody takes the page away"
+        behind = ", and an update behind that was answered" * run.is_behind(address, n, made.first + number)
         if run.entries[ending][2] is not None:
-            return "reachable: it is taken away later"
-        return "reachable: it is never over" if ending >= made.before else "reachable: it was never over before the cut"
+            return f"reachable: it is taken away later{behind}"
+        return f"reachable: it {'is' if ending >= made.before else 'was'} never over{' before the cut' * (ending < made.before)}{behind}"
 
 
 def spelled(drawing):

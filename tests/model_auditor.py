@@ -427,22 +427,15 @@ def verdict(data):
         return f"{fault}\n", 1
 
 
-def remark(data, alone=False):
-    """What `nrvs` says on standard error of bytes that begin as a chain, where it reads traces; `resolve` reads these alone."""
-    if data[:4] != b"NRVS":
-        return ""
-    return "this is a chain, and resolve reads traces\n" if alone else "this is a chain: use --chain\n"
-
-
 def resolve(data, spelling, replica=0):
     """What `nrvs resolve` prints, what it says on standard error, and its status."""
     if not re.fullmatch("0x[0-9a-fA-F]{1,16}", spelling):
-        return "", f"{spelling}: bad address\n", 2
+        return "", "bad address\n", 2
     address = int(spelling, 16)
     try:
         trace = read(data)
     except Fault as fault:
-        return f"{fault}\n", remark(data, True), 1
+        return f"{fault}\n", "", 1
     if not is_canonical(trace.levels, address):
         return "", "not canonical\n", 2
     if replica >= trace.replicas:

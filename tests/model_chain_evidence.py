@@ -142,30 +142,40 @@ def words_of_tables(name, shown):
 # ---- a stale touch ----
 
 def lingering(joined, entries, address):
-    """How the address may still be found to look behind so many entries: as before a change that was never answered, nor was a later one."""
+    """How the address may still be found to look behind so many entries: as before a change, where no answered one from that on ends this."""
     places, seen = joined.changes([address])[address] if joined else ([], [])
-    left = []
-    for place, page in reversed([(place, seen[k]) for k, place in enumerate(places) if place < entries]):
-        if joined.entries[place].answered < chains.NEVER:
-            break
-        left.append(page)
-    return left[::-1]
+    changes = [(k, joined.entries[place].answered < chains.NEVER) for k, place in enumerate(places) if place < entries]
+
+    def is_ended(page, since):
+        return any(is_answered and (page is None or chains.takes_away(seen[k], seen[k + 1])) for k, is_answered in changes[since:])
+    return [seen[k] for k, _ in changes if not is_ended(seen[k], k)]
 
 
 class Seen:
-    """How many entries of a segment's log a touch may see, and how its address looks, with the changes of that in the segment."""
+    """How many entries of a segment's log a touch may see that found a page, or none, and how its address looks, with the changes of that in
+    the segment."""
 
-    def __init__(self, trace, start, address, made, answered):
+    def __init__(self, trace, start, address, made, answered, is_of_none=False):
         self.alone = chains.Joined(start)
         self.alone.add(trace)
+        self.made, self.is_of_none = made, is_of_none
         self.places, self.looks = self.alone.changes([address])[address]
-        self.least, self.most = self.alone.window(self.places, made, answered)      # counted in changes
+        with_page, without, self.most = self.alone.bounds(self.places, self.looks, made, answered)      # counted in changes
+        self.least = without if is_of_none else with_page
         self.first = self.places[self.least - 1] + 1 if self.least else 0
         self.last = self.end_of(self.most, trace)
 
     def end_of(self, changes, trace):
         """The most entries that have just so many of the changes."""
         return self.places[changes] if changes < len(self.places) else len(trace.log)
+
+    def still_open(self):
+        """The first place before that of the update which it has to see that would end such a look too, and wasn't answered by then; or None."""
+        for k in range(self.least - 1):
+            is_open = self.alone.entries[self.places[k]].answered > self.made
+            if is_open and (self.is_of_none or chains.takes_away(self.looks[k], self.looks[k + 1])):
+                return self.places[k]
+        return None
 
 
 def shown_to(trace, replica, number):
@@ -187,17 +197,6 @@ def missed_update(trace, first):
     return {"place": first - 1, "call": event_fact(trace, call), "reply": event_fact(trace, reply)}
 
 
-def took_back(trace, may_see, right):
-    """The first update from the nearest lower number of entries with this answer on, up to those that a touch has to see, that does more to
-    its address than add rights; or none."""
-    if right["before"] is None:
-        return None
-    for k, place in enumerate(may_see.places):
-        if right["before"]["last"] <= place < may_see.first and not chains.grows(may_see.looks[k], may_see.looks[k + 1]):
-            return taken_at(trace, place)
-    return None
-
-
 def touch_answered(trace, start, number, told):
     """After how many entries the space answers a touch so."""
     as_access = trace.events[number]._replace(kind=traces.ACCESS)
@@ -206,13 +205,14 @@ def touch_answered(trace, start, number, told):
 
 def of_stale(trace, start, number, left):
     """How many entries of the log it may see, how its address looks after them, and how it may still look behind the segments before; the
-    update that it should have seen, and after which entries its answer would be right."""
+    update that it should have seen, which one before that was open, and after which entries its answer would be right."""
     end = next(i for i, each in enumerate(trace.events) if isinstance(each, Reply) and each.call == number)
     call, told = trace.events[number], trace.events[end].answer
-    may_see = Seen(trace, start, call.address, number, end)
+    is_of_none = told == chains.allow(trace, None, call)
+    may_see = Seen(trace, start, call.address, number, end, is_of_none)
     places, first, last, address = may_see.places, may_see.first, may_see.last, call.address
     lags, seen = {}, []
-    if told == chains.allow(trace, None, call):
+    if is_of_none:
         known, shown = shown_to(trace, call.replica, number)
         lags = {"known": known, "shown": None if shown is None else event_fact(trace, shown)}
     least = min(first, lags.get("known", first))
@@ -222,14 +222,13 @@ def of_stale(trace, start, number, left):
             space.apply(trace.events[each])
         seen.append({"entries": entries, "look": looks(space, address)})
     shown = {"call": event_fact(trace, number), "reply": event_fact(trace, end), "first": first, "last": last, "looks": seen, **lags}
+    left = [page for page in left if (page is None) == is_of_none]
     if left and first == 0:
         shown["earlier"] = [look_of(trace, page, address) for page in left]
-    right = touch_answered(trace, start, number, trace.events[end].answer)
-    shown |= {"missed": missed_update(trace, first), "right": evidence.nearest(right, first, last)}
-    none = chains.allow(trace, None, call)
-    if told == none._replace(value=none.value | 1):
-        shown["taken"] = took_back(trace, may_see, shown["right"])
-    return shown
+    right = evidence.nearest(touch_answered(trace, start, number, told), first, last)
+    still_open = may_see.still_open()
+    return shown | {"missed": missed_update(trace, first), "open": None if still_open is None else taken_at(trace, still_open), "right": right,
+                    "later": {"place": last, "call": event_fact(trace, trace.log[last])} if right["behind"] else None}
 
 
 def look_of(trace, page, address):
@@ -241,31 +240,25 @@ def look_of(trace, page, address):
 
 
 def words_of_stale(shown, places):
-    first, last, told, missed = shown["first"], shown["last"], shown["reply"]["answer"], shown["missed"]
+    first, last, told, missed, later = (shown[each] for each in ("first", "last", "reply", "missed", "later"))
     lags = [f"entries its replica had applied: {shown['known']}"] if "known" in shown else []
     lags += [event_line(shown["shown"])] if shown.get("shown") else []
     by_what, least = ("even by a table that lags ", min(first, shown["known"])) if lags else ("", first)
-    back, nor = [], ""
-    if "taken" in shown:
-        back, nor = taken_lines(shown["taken"]), " Nor is it a fault by rights that were kept."
-        if shown["taken"]:
-            nor = f"{nor[:-1]}: call {shown['taken']['call']['event']} did more than add rights."
-    return (f"Touch {shown['call']['event']} was answered `{told}`, but {by_what}it may see only {least} to {last} entries of the log, and "
-            "after none of these its address looks so." + (
-                " Nor does it in what earlier segments leave, whose updates were never answered." if "earlier" in shown else "") + nor,
-            [event_line(shown["call"]), event_line(shown["reply"]), f"entries seen at least: {first}", f"entries seen at most: {last}", *lags,
+    return (f"Touch {shown['call']['event']} was answered `{told['answer']}`, but {by_what}it may see only {least} to {last} entries of the log, and "
+            "after none of these its address looks so." + (" Nor does it in what earlier segments leave." if "earlier" in shown else ""),
+            [event_line(shown["call"]), event_line(told), f"entries seen at least: {first}", f"entries seen at most: {last}", *lags,
              *(f"before the segment: {look}" for look in shown.get("earlier", ())),
              *(f"after {each['entries']}: {each['look']}" for each in shown["looks"]),
              *([f"should have seen place {missed['place']}, {event_line(missed['call'])}", event_line(missed["reply"])] if missed
-               else ["should have seen: none"]), evidence.right_line(shown["right"], places), *back])
+               else ["should have seen: none"]), *update_lines("still open then:", shown["open"]),
+             *([f"called later: place {later['place']}, {event_line(later['call'])}"] if later else []), evidence.right_line(shown["right"], places)])
 
 
-def taken_lines(taken):
-    """The lines of the update that takes something away, or that none of the segment does."""
-    if not taken:
-        return ["taken away by: none in this segment"]
-    return [f"taken away by place {taken['place']}, {event_line(taken['call'])}",
-            event_line(taken["reply"]) if taken["reply"] else "no reply to it"]
+def update_lines(what, update):
+    """The lines of an update, if there is one."""
+    if not update:
+        return []
+    return [f"{what} place {update['place']}, {event_line(update['call'])}", event_line(update["reply"]) if update["reply"] else "no reply to it"]
 
 
 # ---- memory that can still be reached ----
@@ -334,7 +327,7 @@ def words_of_reachable(shown):
     lines += [f"address {shown['address']}", f"entries seen at least: {shown['first']}", f"entries seen at most: {shown['last']}",
               f"{'before the segment' if shown['entries'] is None else 'after %d' % shown['entries']}: {shown['look']}"]
     if isinstance(taken, dict):
-        lines += taken_lines(taken)
+        lines += update_lines("taken away by", taken)
         when = f"is answered only at event {taken['reply']['event']}" if taken["reply"] else "is never answered"
         how = f"call {taken['call']['event']} takes it from there, and {when}"
     else:

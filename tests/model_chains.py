@@ -19,7 +19,7 @@ traces.FAULTS.extend(fault for fault in FAULTS if fault not in traces.FAULTS)
 
 Segment = collections.namedtuple("Segment", "trace start touches releases ends")  # ends: the index of the first byte behind it
 Entry = collections.namedtuple("Entry", "call called answered")  # of the joined log, with its events there; answered may be NEVER
-Life = collections.namedtuple("Life", "page born ended")  # a page, and the places of the entries that made and that ended it
+Life = collections.namedtuple("Life", "page born ended is_taken")  # a page, the places of the entries that made and that ended it, and how
 NEVER = float("inf")
 
 
@@ -166,14 +166,22 @@ class Joined:
                     seen.append(now)
         return changes
 
-    def window(self, places, called, answered):
-        """The moments, counted in changes, from which something that was called and answered so may be answered."""
-        least = max([k + 1 for k, place in enumerate(places) if self.entries[place].answered < called], default=0)
+    def bounds(self, places, seen, called, answered):
+        """Between which moments, counted in changes, something that was called and answered so may be answered: the least with a page, the
+        least without one, and the most."""
+        over = [k for k, place in enumerate(places) if self.entries[place].answered < called]
+        with_page = max([k + 1 for k in over if takes_away(seen[k], seen[k + 1])], default=0)
         most = min([k for k, place in enumerate(places) if self.entries[place].called > answered], default=len(places))
-        return least, most
+        return with_page, over[-1] + 1 if over else 0, most
+
+    def allowed(self, places, seen, called, answered):
+        """The moments, counted in changes, from which something that was called and answered so may be answered."""
+        with_page, without, most = self.bounds(places, seen, called, answered)
+        return [n for n in range(with_page, most + 1) if seen[n] or n >= without]
 
     def lives(self):
-        """Each page that ever was, with the places of the entries that made it (-1: the begin) and that ended it (NEVER: none did)."""
+        """Each page that ever was, with the places of the entries that made it (-1: the begin) and that ended it (NEVER: none did), and
+        whether that one took it away, or some right."""
         space, lives = self.begin.copy(), []
         born = {base: -1 for base in space.bases}
         for place, entry in enumerate(self.entries):
@@ -182,33 +190,21 @@ class Joined:
             after = looks(space, entry.call.address)
             if before != after:
                 if before:
-                    lives.append(Life(before, born.pop(before[0]), place))
+                    lives.append(Life(before, born.pop(before[0]), place, takes_away(before, after)))
                 if after:
                     born[after[0]] = place
-        return lives + [Life(looks(space, base), place, NEVER) for base, place in born.items()]
+        return lives + [Life(looks(space, base), place, NEVER, False) for base, place in born.items()]
 
 
-def grows(before, after):
-    """The same page with rights that include those before."""
-    return bool(before and after) and before[:3] == after[:3] and before[3] & ~after[3] == 0
+def takes_away(before, after):
+    """Of an address that a page covered before: the same page isn't there after, or not with every right that it had."""
+    return before is not None and (after is None or before[:3] != after[:3] or before[3] & ~after[3] != 0)
 
 
-def is_late(trace, joined, call, answer, known, places, seen, window):
-    """A page fault that comes late: by rights that a page had before more were added, or since no page covers the address, where the table
-    of the touch's replica may lag. `known` is how many entries of the joined run it was known to have applied; the window has the moments
-    from which the touch may be answered, counted in changes of its address."""
-    least, most = window
-    if answer == allow(trace, None, call):
-        return any(page is None for page in seen[bisect.bisect_left(places, known):most + 1])
-    if answer.code != traces.PAGE_FAULT:
-        return False
-    for end in range(least, most + 1):
-        begin = end
-        while begin and grows(seen[begin - 1], seen[begin]):
-            begin -= 1
-            if allow(trace, seen[begin], call) == answer:
-                return True
-    return False
+def is_of_lagging(trace, call, answer, known, places, seen, most):
+    """A page fault since no page covers the address, where the table of the touch's replica may lag. `known` is how many entries of the
+    joined run it was known to have applied, `most` the last moment, counted in changes, from which the touch may be answered."""
+    return answer == allow(trace, None, call) and any(page is None for page in seen[bisect.bisect_left(places, known):most + 1])
 
 
 def known_of_touches(segment):
@@ -231,9 +227,10 @@ def check_touches(segment, joined):
     for number in answered:
         call, reply = trace.events[number], trace.events[joined.replied[number]]
         places, seen = changes[call.address]           # how it looks before the first of these places, and after each
-        least, most = joined.window(places, joined.first + number, joined.first + joined.replied[number])
-        if (not any(allow(trace, page, call) == reply.answer for page in seen[least:most + 1])
-                and not is_late(trace, joined, call, reply.answer, joined.before + known[number], places, seen, (least, most))):
+        events = joined.first + number, joined.first + joined.replied[number]
+        moments = joined.allowed(places, seen, *events)
+        if (not any(allow(trace, seen[n], call) == reply.answer for n in moments)
+                and not is_of_lagging(trace, call, reply.answer, joined.before + known[number], places, seen, moments[-1])):
             raise Fault("Stale", number)
 
 
@@ -255,21 +252,22 @@ class Lives:
 
     def may_lead(self, life, low, high, event):
         """The page may still be found at this event at an address that leads there: no update of that address forbids it."""
-        if self.is_over(life, life.born, event) or self.is_over(life, life.ended, event):
+        if self.is_forbidden(life, life, event):
             return False
         base, size, phys, _ = life.page
         parts = [(base + max(low, phys) - phys, base + min(high, phys + traces.SIZES[size]) - phys)]
         for other in self.by_address.meeting(*parts[0]):
-            if any(self.is_over(life, place, event) for place in (other.born, other.ended)):
+            if self.is_forbidden(life, other, event):
                 parts = without(parts, other.page[0], other.page[0] + traces.SIZES[other.page[1]])
         return bool(parts)
 
-    def is_over(self, life, place, event):
-        """At this event the page can no longer be found, or not yet, at addresses that look otherwise after the entry of that place."""
-        if place in (-1, NEVER):
-            return False
-        entry = self.joined.entries[place]
-        return place >= life.ended and entry.answered < event or place <= life.born and entry.called > event
+    def is_forbidden(self, life, other, event):
+        """At this event the page can't be found at addresses of the other (which may be the same one), by how that began and ended: it is over
+        where something was taken away and that was answered, and not yet there where an update was called later."""
+        entries = self.joined.entries
+        if other.is_taken and other.ended >= life.ended and entries[other.ended].answered < event:
+            return True
+        return any(0 <= place <= life.born and entries[place].called > event for place in (other.born, other.ended))
 
 
 class Stretches:

@@ -6,7 +6,7 @@ a chain with a fault of the format in its segment k, and that line. Both raise N
 import struct
 
 import recording
-from drawn_chains import RELEASE, TOUCH, Call, Reply, allowed, answer_at, kept, lagging, lingering, spelled, tables_of, units
+from drawn_chains import RELEASE, TOUCH, Call, Reply, allowed, answer_in, lagging, run_of, spelled, tables_of, units
 from recording import BYTES, MAP, UNMAP
 
 
@@ -139,15 +139,15 @@ def wrong_answer(draw, segment):
 def stale_as(kind):
     """What has a touch answered from a moment that is over, from one that is foreseen, or as from none."""
     def planted(draw, segment):
-        found = []
+        found, run = [], run_of(segment)
         for call, end in segment.replies().items():
-            if segment.events[call].kind == TOUCH:
-                moments = allowed(segment, call, end)
-                fitting = {answer_at(segment, call, n) for n in moments} | lingering(segment, call) | lagging(segment, call, end)
-                fitting |= kept(segment, call, end)
-                others = {"over": range(moments[0]), "foreseen": range(moments[-1] + 1, len(segment.moments)), "none": ()}[kind]
+            asked = segment.events[call]
+            if asked.kind == TOUCH:
+                moments = allowed(segment, run, call, end)
+                fitting = {answer_in(run.spaces[n], asked) for n in moments} | lagging(segment, call, moments[-1] - run.before)
+                others = {"over": set(range(moments[-1])).difference(moments), "foreseen": range(moments[-1] + 1, len(run.spaces)), "none": ()}[kind]
                 drawn = changed_answer(draw, segment.events[end].answer)
-                answers = [drawn] if kind == "none" else sorted(answer_at(segment, call, n) for n in others)
+                answers = [drawn] if kind == "none" else sorted(answer_in(run.spaces[n], asked) for n in others)
                 found += [(call, end, each) for each in answers if each not in fitting]
         call, end, answer = some(draw, found)
         segment.events[end] = segment.events[end]._replace(answer=answer)

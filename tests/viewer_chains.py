@@ -102,8 +102,9 @@ def check_fault(name, page, whole):
     check(f"{name}: what a stale touch may see", told["window"] == window, told["window"])
     check(f"{name}: how far a table lags", (is_stale and "known" in shown) == (f"had applied {shown.get('known')} entr" in page))
     taken = shown.get("taken")
-    kept = "It is no fault by rights that were kept" + (": the entry at place" if taken else ".")
-    check(f"{name}: that it is no fault by rights that were kept", (is_stale and "taken" in shown) == (kept in page))
+    still = shown["open"] if is_stale else None
+    check(f"{name}: which update was open", bool(still) == ("was still open then, " in page)
+          and (not still or f"The entry at place {still['place']} was still open then, " in page))
     end = taken["reply"]["event"] if isinstance(taken, dict) and taken["reply"] else told["events"]
     reach = [shown["call"]["event"], shown["entries"] or 0, end] if is_reached else None
     check(f"{name}: when the memory could be reached", told["reach"] == reach, told["reach"])

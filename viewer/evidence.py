@@ -253,24 +253,18 @@ def of_stale(trace, shown):
         facts.append(f"It has to see the entry at place {missed['place']}, {trace.call_text(before)}: event {missed['reply']['event']} answered that, "
                      f"before the touch was made.")
         calls[before] = "was answered, so that its flush was over, before the touch was made"
+    if shown["open"]:
+        still = shown["open"]["call"]["event"]
+        facts.append(f"The entry at place {shown['open']['place']} was still open then, {trace.call_text(still)}: what came behind it was answered.")
+        calls[still] = "was still open as the touch was made"
     if last < len(trace.log):
         behind = trace.log[last]
         facts.append(f"It may not see the entry at place {last}, {trace.call_text(behind)}: that was made after the touch was answered.")
         calls[behind] = "was made after the touch was answered"
     facts.append(right_fact(trace, stretches))
-    if "taken" in shown:
-        facts.append(kept_fact(trace, shown["taken"]))
     places = [place for place in (first - 1, last) if 0 <= place < len(trace.log)]
     return Evidence(facts, calls, [shown["reply"]["event"]], places, address=hex(address), after=first,
                     window=[number, min(first, shown.get("known", first)), last], right=stretches)
-
-
-def kept_fact(trace, taken):
-    """Of a page fault of a page: which update did more than add rights, so that it can't be by rights that were kept."""
-    if not taken:
-        return "It is no fault by rights that were kept."
-    return (f"It is no fault by rights that were kept: the entry at place {taken['place']} did more than add rights, "
-            f"{trace.call_text(taken['call']['event'])}.")
 
 
 def lag_facts(trace, shown):

@@ -17,7 +17,6 @@ use Rattle.nr_explain.specs.declared.chain.evidence.Origin.TheVariants.{Nothing,
 use Rattle.nr_explain.specs.declared.chain.evidence.BadSegment.{BadSegment}
 use Rattle.nr_explain.specs.declared.chain.evidence.StartBeyond.{StartBeyond}
 use Rattle.nr_explain.specs.declared.chain.evidence.StartDiffers.{StartDiffers}
-use Rattle.nr_explain.specs.declared.chain.evidence.Kept.{Kept}
 use Rattle.nr_explain.specs.declared.chain.evidence.Moment.{Moment}
 use Rattle.nr_explain.specs.declared.chain.evidence.StaleTouch.{StaleTouch}
 use Rattle.nr_explain.specs.declared.chain.evidence.SegmentEvidence.{SegmentEvidence}
@@ -26,10 +25,10 @@ use Rattle.nr_explain.specs.declared.chain.explanation.ChainCounts.{ChainCounts}
 use Rattle.audit_texts.specs.Text.{answer_text, line_end}
 use Rattle.audit_texts.specs.EvidenceJson.{number_data}
 use Rattle.audit_texts.specs.Parts.{Part, Says, in_both, in_json, in_lines, words, parts_data, parts_text, put_part}
-use Rattle.audit_texts.specs.Parts.{address, allowed, call, changed, count, missed, nothing, reply, right, steps, text, unit, walk}
+use Rattle.audit_texts.specs.Parts.{address, allowed, call, changed, count, later, missed, nothing, reply, right, steps, still_open, text, unit, walk}
 use Rattle.audit_texts.specs.Evidence.{answer_parts, evidence_parts, fault_is, look_parts, missing_parts, nearby_parts, read_parts, reserved_parts}
 use Rattle.audit_texts.specs.Evidence.{shared_parts, stray_frame_parts, unlike_parts}
-use Rattle.audit_texts.specs.ChainReleases.{away_parts, lag_parts, why_parts}
+use Rattle.audit_texts.specs.ChainReleases.{lag_parts, why_parts}
 
 -- what an address looks like that no update of the segment has changed
 unfoldable pub origin_says : Origin → Says
@@ -108,19 +107,15 @@ window_parts touch = fault_is (codes "Stale") ∷ in_both (codes "call") (call t
 unfoldable pub stale_parts : StaleTouch → List Part
 stale_parts touch = window_parts touch ++ lag_parts touch.lag
 
--- which update a touch should have seen, and after which entries its answer would be right
+-- which update a touch should have seen, which was open then, which was called later, and after which entries its answer would be right
 unfoldable pub seen_parts : StaleTouch → List Part
-seen_parts touch = in_both (codes "missed") (missed touch.missed) ∷ words (codes "right after: ")
-    ∷ in_both (codes "right") (right touch.right) ∷ words line_end ∷ []
+seen_parts touch = in_both (codes "missed") (missed touch.missed) ∷ in_both (codes "open") (still_open touch.still_open)
+    ∷ in_both (codes "later") (later touch.later) ∷ words (codes "right after: ") ∷ in_both (codes "right") (right touch.right)
+    ∷ words line_end ∷ []
 
--- which update took away rights that may be kept, of a fault of a page
-unfoldable pub kept_parts : Option Kept → List Part
-kept_parts None = []
-kept_parts (Some kept) = away_parts kept.taken
-
--- both of a stale touch
+-- the same of a stale touch
 unfoldable pub missed_parts : SegmentEvidence → List Part
-missed_parts (shown.Stale touch) = seen_parts touch ++ kept_parts touch.kept
+missed_parts (shown.Stale touch) = seen_parts touch
 missed_parts _ = []
 
 -- how an address looked at a moment

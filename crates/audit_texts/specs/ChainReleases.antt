@@ -8,7 +8,7 @@ use Rattle.nr_explain.specs.declared.chain.evidence.Lag.{Lag}
 use Rattle.nr_explain.specs.declared.chain.evidence.Leading.{Leading}
 use Rattle.nr_explain.specs.declared.chain.evidence.Leading.TheVariants.{Within, Earlier}
 use Rattle.nr_explain.specs.declared.chain.evidence.Reach.{Reach}
-use Rattle.nr_explain.specs.declared.chain.evidence.TakenAway.{TakenAway}
+use Rattle.nr_explain.specs.declared.chain.evidence.OpenUpdate.{OpenUpdate}
 use Rattle.nr_explain.specs.declared.chain.evidence.WhyWrong.{WhyWrong}
 use Rattle.nr_explain.specs.declared.chain.evidence.WhyWrong.TheVariants.{Otherwise, Reached}
 use Rattle.audit_texts.specs.Text.{answer_text, line_end}
@@ -54,7 +54,7 @@ leading_parts look Earlier = in_json (codes "entries") nothing ∷ words (codes 
     ∷ in_both (codes "look") (answer look) ∷ words line_end ∷ []
 
 -- the update that takes something away, or that none of the segment does
-unfoldable pub away_parts : Option TakenAway → List Part
+unfoldable pub away_parts : Option OpenUpdate → List Part
 away_parts None = words (codes "taken away by: ") ∷ in_both (codes "taken") nothing ∷ words (codes " in this segment\n") ∷ []
 away_parts (Some away) = in_both (codes "taken") (taken away) ∷ []
 
@@ -78,7 +78,7 @@ answered_words None = codes "never answered"
 answered_words (Some it) = codes "answered only at event " ++ decimal it.event
 
 -- that an update takes it away, and how that is answered
-unfoldable pub away_words : TakenAway → List ℕ
+unfoldable pub away_words : OpenUpdate → List ℕ
 away_words away =
     codes "call " ++ (decimal away.update.call.event ++ (codes " takes it from there, and is " ++ answered_words away.reply))
 

@@ -6,9 +6,7 @@ use Rattle.nr_trace.specs.declared.fault.Format.{Format}
 use Rattle.nr_trace.specs.declared.fault.Format.TheVariants as formats
 use Rattle.nr_explain.specs.declared.units.BadUnit.{BadUnit}
 use Rattle.nr_explain.specs.ChainEvidence.{fewest}
-use Rattle.nr_explain.specs.declared.chain.evidence.Kept.{Kept}
 use Rattle.nr_explain.specs.declared.chain.evidence.Lag.{Lag}
-use Rattle.nr_explain.specs.declared.chain.evidence.TakenAway.{TakenAway}
 use Rattle.nr_explain.specs.declared.chain.evidence.StartBeyond.{StartBeyond}
 use Rattle.nr_explain.specs.declared.chain.evidence.StartDiffers.{StartDiffers}
 use Rattle.nr_explain.specs.declared.chain.evidence.StaleTouch.{StaleTouch}
@@ -51,29 +49,18 @@ window_text first last = decimal first ++ (codes " to " ++ (decimal last ++ code
 
 -- that none of the looks which linger behind the segments before is that of the answer
 unfoldable pub earlier_words : List Answer → List ℕ
-earlier_words looks = if length looks == 0 then [] else codes " Nor does it in what earlier segments leave, whose updates were never answered."
+earlier_words looks = if length looks == 0 then [] else codes " Nor does it in what earlier segments leave."
 
 -- what limits the entries that a touch may see
 unfoldable pub limit_words : Option Lag → List ℕ
 limit_words None = codes "it may see only "
 limit_words (Some lag) = codes "even by a table that lags it may see only "
 
--- that rights which were kept don't make a fault of a page right: which update took them away
-unfoldable pub back_words : Option TakenAway → List ℕ
-back_words None = codes " Nor is it a fault by rights that were kept."
-back_words (Some taken) =
-    codes " Nor is it a fault by rights that were kept: call " ++ (decimal taken.update.call.event ++ codes " did more than add rights.")
-
--- so it is said of a fault of a page
-unfoldable pub kept_words : Option Kept → List ℕ
-kept_words None = []
-kept_words (Some kept) = back_words kept.taken
-
 -- the sentence on a touch that is stale
 abbrev pub stale_sentence : StaleTouch → List ℕ
 stale_sentence touch = codes "Touch " ++ (decimal touch.call.event ++ (codes " was answered `" ++ (answer_text touch.reply.answer
     ++ (codes "`, but " ++ (limit_words touch.lag ++ (window_text (fewest touch.first touch.lag) touch.last
-    ++ (codes ", and after none of these its address looks so." ++ (earlier_words touch.earlier.items ++ kept_words touch.kept))))))))
+    ++ (codes ", and after none of these its address looks so." ++ earlier_words touch.earlier.items)))))))
 
 -- the sentence of the evidence
 unfoldable pub segment_sentence : SegmentEvidence → List ℕ

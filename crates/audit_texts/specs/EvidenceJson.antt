@@ -4,7 +4,7 @@ use Rattle.serde_json.specs.Data.{Data, array, member, no_members, null, number,
 use Rattle.serde_json.specs.View.{items_of}
 use Rattle.nr_trace.specs.declared.event.Event.{Event}
 use Rattle.nr_trace.specs.declared.event.Event.TheVariants.{Call, Release, Reply, Touch}
-use Rattle.nr_explain.specs.declared.chain.evidence.TakenAway.{TakenAway}
+use Rattle.nr_explain.specs.declared.chain.evidence.OpenUpdate.{OpenUpdate}
 use Rattle.nr_explain.specs.declared.trace.evidence.RecordedCall.{RecordedCall}
 use Rattle.nr_explain.specs.declared.trace.evidence.RecordedReply.{RecordedReply}
 use Rattle.nr_explain.specs.declared.trace.evidence.PlacedUpdate.{PlacedUpdate}
@@ -73,7 +73,7 @@ changed_data (Some update) = object
     (member (codes "place") (number_data update.place) no_members))
 
 -- the update that takes away that an address leads somewhere, its place, and the reply to it
-abbrev pub taken_data : TakenAway → Data
+abbrev pub taken_data : OpenUpdate → Data
 taken_data taken = object
     (member (codes "call") (call_data taken.update.call)
     (member (codes "place") (number_data taken.update.place)

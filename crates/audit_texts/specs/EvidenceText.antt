@@ -14,7 +14,7 @@ use Rattle.nr_trace.specs.declared.fault.Format.{Format}
 use Rattle.nr_trace.specs.declared.fault.Format.TheVariants as formats
 use Rattle.nr_trace.specs.declared.refusal.TraceUnit.{TraceUnit}
 use Rattle.nr_trace.specs.declared.refusal.TraceUnit.TheVariants as units
-use Rattle.nr_explain.specs.declared.chain.evidence.TakenAway.{TakenAway}
+use Rattle.nr_explain.specs.declared.chain.evidence.OpenUpdate.{OpenUpdate}
 use Rattle.nr_explain.specs.declared.trace.evidence.Given.{Given}
 use Rattle.nr_explain.specs.declared.trace.evidence.RecordedCall.{RecordedCall}
 use Rattle.nr_explain.specs.declared.trace.evidence.RecordedReply.{RecordedReply}
@@ -85,7 +85,7 @@ changed_line None = codes "last changed by: none\n"
 changed_line (Some update) = codes "last changed by place " ++ (decimal update.place ++ (codes ", " ++ call_line update.call))
 
 -- the update that takes away that an address leads somewhere, and the reply to it
-unfoldable pub taken_lines : TakenAway → List ℕ
+unfoldable pub taken_lines : OpenUpdate → List ℕ
 taken_lines taken = codes "taken away by place " ++ (decimal taken.update.place ++ (codes ", " ++ (call_line taken.update.call ++ own_line taken.reply)))
 
 -- the line of an entry of a table

@@ -3,11 +3,13 @@ use Rattle.std.specs.Prelude.{ℕ, ◌==◌, ◌++◌, List, codes, decimal, if�
 use Rattle.serde_json.specs.Data.{Data, member, no_members, null, object, string}
 use Rattle.vs_text.specs.Words.{hexadecimal}
 use Rattle.nr_explain.specs.declared.chain.evidence.MissedUpdate.{MissedUpdate}
+use Rattle.nr_explain.specs.declared.chain.evidence.OpenUpdate.{OpenUpdate}
+use Rattle.nr_explain.specs.declared.trace.evidence.PlacedUpdate.{PlacedUpdate}
 use Rattle.nr_explain.specs.declared.trace.nearby.NamedMemory.{NamedMemory}
 use Rattle.nr_explain.specs.declared.trace.nearby.RightAfter.{RightAfter}
 use Rattle.nr_explain.specs.declared.trace.nearby.Stretch.{Stretch}
-use Rattle.audit_texts.specs.EvidenceJson.{call_data, number_data, reply_data}
-use Rattle.audit_texts.specs.EvidenceText.{call_line, reply_line}
+use Rattle.audit_texts.specs.EvidenceJson.{call_data, number_data, reply_data, taken_data}
+use Rattle.audit_texts.specs.EvidenceText.{call_line, own_line, reply_line}
 
 -- some numbers of entries, of a log that has so many
 unfoldable pub stretch_text : ℕ → Stretch → List ℕ
@@ -43,6 +45,17 @@ missed_lines None = codes "should have seen: none\n"
 missed_lines (Some missed) =
     codes "should have seen place " ++ (decimal missed.update.place ++ (codes ", " ++ (call_line missed.update.call ++ reply_line missed.reply)))
 
+-- the update that was still open then, if there is one, to the end of its reply's line
+unfoldable pub open_lines : Option OpenUpdate → List ℕ
+open_lines None = codes ""
+open_lines (Some found) =
+    codes "still open then: place " ++ (decimal found.update.place ++ (codes ", " ++ (call_line found.update.call ++ own_line found.reply)))
+
+-- the update that was called later, if there is one
+unfoldable pub later_line : Option PlacedUpdate → List ℕ
+later_line None = codes ""
+later_line (Some update) = codes "called later: place " ++ (decimal update.place ++ (codes ", " ++ call_line update.call))
+
 -- some numbers of entries, or null
 abbrev pub stretch_data : Option Stretch → Data
 stretch_data None = null
@@ -75,3 +88,8 @@ missed_data (Some missed) = object
     (member (codes "call") (call_data missed.update.call)
     (member (codes "place") (number_data missed.update.place)
     (member (codes "reply") (reply_data missed.reply) no_members)))
+
+-- the update that was still open then, or null
+abbrev pub open_data : Option OpenUpdate → Data
+open_data None = null
+open_data (Some found) = taken_data found

@@ -7,12 +7,12 @@ use Rattle.vs_walk.specs.declared.walk.Walk.{Walk}
 use Rattle.nr_trace.specs.declared.event.Event.{Event}
 use Rattle.nr_trace.specs.declared.fault.Format.{Format}
 use Rattle.nr_trace.specs.declared.refusal.TraceUnit.{TraceUnit}
-use Rattle.nr_explain.specs.declared.chain.evidence.TakenAway.{TakenAway}
 use Rattle.nr_explain.specs.declared.trace.evidence.RecordedCall.{RecordedCall}
 use Rattle.nr_explain.specs.declared.trace.evidence.RecordedReply.{RecordedReply}
 use Rattle.nr_explain.specs.declared.trace.evidence.PlacedUpdate.{PlacedUpdate}
 use Rattle.nr_explain.specs.declared.trace.evidence.TableEntry.{TableEntry}
 use Rattle.nr_explain.specs.declared.chain.evidence.MissedUpdate.{MissedUpdate}
+use Rattle.nr_explain.specs.declared.chain.evidence.OpenUpdate.{OpenUpdate}
 use Rattle.nr_explain.specs.declared.trace.nearby.NamedMemory.{NamedMemory}
 use Rattle.nr_explain.specs.declared.trace.nearby.RightAfter.{RightAfter}
 use Rattle.audit_texts.specs.Text.{answer_text, format_text, walk_words}
@@ -20,7 +20,7 @@ use Rattle.audit_texts.specs.EvidenceText.{bytes_text, call_line, changed_line, 
 use Rattle.audit_texts.specs.EvidenceText.{read_text, reply_line, reserved_text, step_line, steps_lines, taken_lines, unit_text, way_lines}
 use Rattle.audit_texts.specs.EvidenceJson.{call_data, changed_data, event_data, number_data, option_data, own_data, reply_data, step_data}
 use Rattle.audit_texts.specs.EvidenceJson.{taken_data, way_data}
-use Rattle.audit_texts.specs.NearbyText.{memory_data, memory_line, missed_data, missed_lines, right_data, right_text}
+use Rattle.audit_texts.specs.NearbyText.{later_line, memory_data, memory_line, missed_data, missed_lines, open_data, open_lines, right_data, right_text}
 use Rattle.audit_texts.specs.declared.parts.Says.{Says as Spoken}
 use Rattle.audit_texts.specs.declared.parts.Says.TheVariants as spoken
 use Rattle.audit_texts.specs.declared.parts.Part.{Part as Spelled}
@@ -34,7 +34,7 @@ pub data Says : Type 0 where
   own : Option RecordedReply → Says
   event : ℕ → Option Event → Says
   changed : Option PlacedUpdate → Says
-  taken : TakenAway → Says
+  taken : OpenUpdate → Says
   step : TableEntry → Says
   steps : List TableEntry → Says
   way : List TableEntry → Says
@@ -52,6 +52,8 @@ pub data Says : Type 0 where
   right : RightAfter → Says
   memory : Option NamedMemory → Says
   missed : Option MissedUpdate → Says
+  still_open : Option OpenUpdate → Says
+  later : Option PlacedUpdate → Says
 
 -- the text of a fact, as it comes in the lines
 unfoldable pub says_text : Says → List ℕ
@@ -79,6 +81,8 @@ says_text (text it) = it
 says_text (right it) = right_text it
 says_text (memory it) = memory_line it
 says_text (missed it) = missed_lines it
+says_text (still_open it) = open_lines it
+says_text (later it) = later_line it
 
 -- the value of a fact, as it comes in JSON
 unfoldable pub says_data : Says → Data
@@ -106,6 +110,8 @@ says_data (text it) = string it
 says_data (right it) = right_data it
 says_data (memory it) = memory_data it
 says_data (missed it) = missed_data it
+says_data (still_open it) = open_data it
+says_data (later it) = changed_data it
 
 -- a part of what is printed: words in the lines alone, or a fact in the lines, in both or in JSON, with its name there
 pub data Part : Type 0 where
@@ -172,6 +178,8 @@ says_of (spoken.Text it) = text it.now
 says_of (spoken.Right it) = right it
 says_of (spoken.Memory it) = memory it
 says_of (spoken.Missed it) = missed it
+says_of (spoken.Open it) = still_open it
+says_of (spoken.Later it) = later it
 
 -- the part that a value of the code is
 abbrev pub part_of : Spelled → Part

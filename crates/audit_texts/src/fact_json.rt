@@ -9,7 +9,7 @@ ghost use Rattle.audit_texts.specs.EvidenceJson.{step_data, taken_data, way_data
 
 use crate::answer::answer_text;
 use crate::fact_text::{address_text, asked_text, release_text, touch_text};
-use nr_explain::{PlacedUpdate, RecordedCall, RecordedReply, TableEntry, TakenAway};
+use nr_explain::{OpenUpdate, PlacedUpdate, RecordedCall, RecordedReply, TableEntry};
 use nr_trace::Event;
 use serde_json::{Map, Value, put};
 use std::alloc::{AllocError, Global};
@@ -210,7 +210,7 @@ pub(crate) fn changed_value(
 }
 
 /// The update that takes away that an address leads somewhere, its place, and the reply to it.
-pub(crate) fn taken_value(alloc: Global, taken: TakenAway) -> Result<Value, AllocError>
+pub(crate) fn taken_value(alloc: Global, taken: OpenUpdate) -> Result<Value, AllocError>
     ensures { IfOk result (λ value. view value ≡ taken_data taken) }
 {
     let place = Value::from(taken.update.place);

@@ -8,7 +8,7 @@ ghost use Rattle.audit_texts.specs.EvidenceText.{outside_text, release_text, rep
 ghost use Rattle.audit_texts.specs.EvidenceText.{taken_lines, touch_text, way_lines};
 
 use crate::answer::answer_text;
-use nr_explain::{Given, PlacedUpdate, RecordedCall, RecordedReply, TableEntry, TakenAway};
+use nr_explain::{Given, OpenUpdate, PlacedUpdate, RecordedCall, RecordedReply, TableEntry};
 use nr_trace::{Event, Format};
 use std::alloc::{AllocError, Global};
 use vs_text::{access_text, mode_text, request_text, size_text};
@@ -243,7 +243,7 @@ pub(crate) fn changed_line(
 
 /// The update that takes away that an address leads somewhere, and the reply to it.
 #[tactic(auto, unfolding(crate::specs::EvidenceText::taken_lines))]
-pub(crate) fn taken_lines(alloc: Global, taken: TakenAway) -> Result<String, AllocError>
+pub(crate) fn taken_lines(alloc: Global, taken: OpenUpdate) -> Result<String, AllocError>
     ensures { IfOk result (λ text. string_bytes text ≡ taken_lines taken) }
 {
     let place = taken.update.place;

@@ -5,7 +5,7 @@ ghost use Rattle.serde_json.specs.View.{members_view, view};
 ghost use Rattle.audit_texts.specs.Parts.{part_of, parts_data, put_part, says_data, says_of};
 
 use crate::answer::answer_text;
-use crate::chain::missed::missed_value;
+use crate::chain::missed::{missed_value, open_value};
 use crate::fact_json::{
     Members, call_value, changed_value, event_value, option_value, own_value, reply_value,
     step_value, taken_value, way_value,
@@ -48,6 +48,8 @@ fn says_value(alloc: Global, says: &Says) -> Result<Value, AllocError>
         Says::Right(right) => right_value(alloc, *right),
         Says::Memory(memory) => memory_value(alloc, *memory),
         Says::Missed(missed) => missed_value(alloc, *missed),
+        Says::Open(update) => open_value(alloc, *update),
+        Says::Later(update) => changed_value(alloc, *update),
     }
 }
 

@@ -4,7 +4,7 @@ ghost use Rattle.std.specs.Prelude.{◌≡◌, ◌++◌, IfOk, OnOk, map, string
 ghost use Rattle.audit_texts.specs.Parts.{part_of, part_text, parts_text, says_of, says_text};
 
 use crate::answer::answer_text;
-use crate::chain::missed::missed_lines;
+use crate::chain::missed::{later_line, missed_lines, open_lines};
 use crate::fact_text::{
     address_text, call_line, changed_line, event_line, format_lines, number_text, option_text,
     own_line, reply_line, reserved_text, step_line, steps_lines, taken_lines, way_lines,
@@ -45,6 +45,8 @@ fn says_text(alloc: Global, says: &Says) -> Result<String, AllocError>
         Says::Right(right) => right_text(alloc, *right),
         Says::Memory(memory) => memory_line(alloc, *memory),
         Says::Missed(missed) => missed_lines(alloc, *missed),
+        Says::Open(update) => open_lines(alloc, *update),
+        Says::Later(update) => later_line(alloc, *update),
     }
 }
 

@@ -1,8 +1,8 @@
 //! What is said of a fault, as a list of parts: words, and facts with their names.
 
 use nr_explain::{
-    MissedUpdate, NamedMemory, PlacedUpdate, RecordedCall, RecordedReply, RightAfter, TableEntry,
-    TakenAway,
+    MissedUpdate, NamedMemory, OpenUpdate, PlacedUpdate, RecordedCall, RecordedReply, RightAfter,
+    TableEntry,
 };
 use nr_trace::{Event, Format, TraceUnit};
 use vs_types::Answer;
@@ -22,7 +22,7 @@ pub enum Says<'a> {
     /// The last update that changed how an address looks, if there is one.
     Changed(Option<PlacedUpdate>),
     /// The update that takes away that an address leads somewhere, and the reply to it.
-    Taken(TakenAway),
+    Taken(OpenUpdate),
     /// An entry of a table.
     Step(TableEntry),
     /// The entries that are read on a way: a line each, and none where there are none.
@@ -54,6 +54,10 @@ pub enum Says<'a> {
     Memory(Option<NamedMemory>),
     /// The update that a touch should have seen, if there is one, to the end of its reply's line.
     Missed(Option<MissedUpdate>),
+    /// The update that was still open then, to the end of its reply's line, or no line.
+    Open(Option<OpenUpdate>),
+    /// The update that was called later: a line, or none.
+    Later(Option<PlacedUpdate>),
 }
 
 /// A part of what is said, by where it is printed; in JSON a fact is a member of this name.

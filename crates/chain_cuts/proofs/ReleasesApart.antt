@@ -16,12 +16,12 @@ use Rattle.nr_joined.specs.Joined.{event_behind, joined_traces}
 use Rattle.nr_joined.specs.Run.{Run, run_with, IsOrderly}
 use Rattle.nr_joined.proofs.Associated.{joined_associate}
 use Rattle.nr_joined.proofs.Lists.{split_at}
-use Rattle.nr_joined.proofs.Orderly.{clean_is_orderly, orderly_both, own_calls}
+use Rattle.nr_joined.proofs.Orderly.{clean_is_orderly, orderly_both}
 use Rattle.nr_joined.proofs.Parts.{reply_behind, reply_left, reply_right, reply_from_right}
 use Rattle.nr_touch.specs.Releases.{IsReachable, IsWrongRelease}
 use Rattle.nr_touch.specs.Touches.{IsRightTouch}
-use Rattle.nr_touch.specs.declared.release.Release.{Release}
-use Rattle.nr_touch.specs.declared.touch.Touch.{Touch}
+use Rattle.nr_touch.specs.declared.releases.release.Release.{Release}
+use Rattle.nr_touch.specs.declared.touches.touch.Touch.{Touch}
 use Rattle.nr_audit.specs.Releases.{HasRelease, HasRightReleases, IsDoneOrOpen}
 use Rattle.nr_audit.proofs.ReleaseLists.{release_within}
 use Rattle.nr_chain.specs.Headline.{release_behind}
@@ -163,7 +163,7 @@ module _ (start : Space) (first second : Recording) (same_layout : second.layout
         finds = it.finds;
         within = it.within;
         right =
-            right_front start first second same_layout (own_calls first orderly) orderly.earlier it.touch (let own = it.made in omega (arith, l, own)) it.right;
+            right_front start first second same_layout orderly it.touch (let own = it.made in omega (arith, l, own)) it.right;
       }
   reached_whole (Some run) (run_orderly, layout) release has it =
       let l = release_within first release has in
@@ -176,8 +176,7 @@ module _ (start : Space) (first second : Recording) (same_layout : second.layout
         finds = it.finds;
         within = it.within;
         right = subst (λ (r : Recording). IsRightTouch run.start r (behind run.trace it.touch)) (joined_associate run.trace first second)
-            (right_front run.start (joined_traces run.trace first) second (same_layout ∙ layout) (own_calls (joined_traces run.trace first) front_orderly)
-            front_orderly.earlier (behind run.trace it.touch)
+            (right_front run.start (joined_traces run.trace first) second (same_layout ∙ layout) front_orderly (behind run.trace it.touch)
             (let own = it.made in let long = many_events run.trace first in omega (arith, l, own, long)) it.right);
       }
 
@@ -191,7 +190,7 @@ module _ (start : Space) (first second : Recording) (same_layout : second.layout
     finds = it.finds;
     within = it.within;
     right = inl
-        (in_time_back start first second same_layout (own_calls first orderly) it.touch (let own = it.answered in omega (arith, l, own))
+        (in_time_back start first second same_layout orderly it.touch (let own = it.answered in omega (arith, l, own))
         (found_in_time start both it.touch it.phys it.finds it.right));
   }
   reached_first (Some run) (run_orderly, layout) release l it =
@@ -206,7 +205,7 @@ module _ (start : Space) (first second : Recording) (same_layout : second.layout
         finds = it.finds;
         within = it.within;
         right = inl
-            (in_time_back run.start (joined_traces run.trace first) second (same_layout ∙ layout) (own_calls (joined_traces run.trace first) front_orderly)
+            (in_time_back run.start (joined_traces run.trace first) second (same_layout ∙ layout) front_orderly
             (behind run.trace it.touch) (let own = it.answered in let long = many_events run.trace first in omega (arith, l, own, long))
             (found_in_time run.start (joined_traces (joined_traces run.trace first) second) (behind run.trace it.touch) it.phys it.finds there));
       }

@@ -12,8 +12,8 @@ use Rattle.nr_trace.specs.declared.fault.Fault.TheVariants.{StrayFrame, Differs}
 use Rattle.nr_joined.specs.Run.{Run}
 use Rattle.nr_joined.specs.Joined.{joined_traces}
 use Rattle.nr_touch.specs.Releases.{IsWrongRelease}
-use Rattle.nr_touch.specs.Touches.{touch_behind, IsAllowedPrefix, IsAnsweredAt, IsLagging, IsRightBehind, IsRightTouch, OnlyWidens}
-use Rattle.nr_touch.specs.declared.touch.Touch.{Touch}
+use Rattle.nr_touch.specs.Touches.{touch_behind, IsAllowedPrefix, IsAnsweredAt, IsLagging, IsRightBehind, IsRightTouch}
+use Rattle.nr_touch.specs.declared.touches.touch.Touch.{Touch}
 use Rattle.nr_audit.specs.Start.{begins_in}
 use Rattle.nr_audit.specs.Releases.{HasRelease, HasRightReleases}
 use Rattle.nr_audit.specs.Touches.{HasTouch, HasRightTouches}
@@ -28,28 +28,21 @@ AreAmong some others = (replica : ℕ) (dump : Image) → IsThere dump → slice
 right_as : (start : Space) (one other : Recording) (touch : Touch)
     → ((n : ℕ) → IsAllowedPrefix start one touch n → IsAllowedPrefix start other touch n)
     → ((n : ℕ) → IsAnsweredAt start one touch n → IsAnsweredAt start other touch n)
-    → ((m n : ℕ) → OnlyWidens start one touch.address m n → OnlyWidens start other touch.address m n)
     → ((m : ℕ) → IsLagging start one touch m → IsLagging start other touch m) → IsRightTouch start one touch → IsRightTouch start other touch
-right_as start one other touch allows answers widens lags (inl (n, allowed, answered)) = inl (n, allows n allowed, answers n answered)
-right_as start one other touch allows answers widens lags (inr (inl (fault, m, n, it))) = inr (inl (
-  fault,
-  m,
-  n,
-  record { allowed = allows n it.allowed; before = it.before; widens = widens m n it.widens; answered = answers m it.answered },
-))
-right_as start one other touch allows answers widens lags (inr (inr (fault, m, it))) = inr (inr (fault, m, lags m it))
+right_as start one other touch allows answers lags (inl (n, allowed, answered)) = inl (n, allows n allowed, answers n answered)
+right_as start one other touch allows answers lags (inr (fault, m, it)) = inr (fault, m, lags m it)
 
 -- a right touch is right with other dumps
 right_without : (trace : Recording) (some others : List Image) (before : Option Run) (start : Space) (touch : Touch)
     → IsRightBehind before start (record trace { dumps = some }) touch → IsRightBehind before start (record trace { dumps = others }) touch
 right_without trace some others None start touch right =
     right_as start (record trace { dumps = some }) (record trace { dumps = others }) touch
-    (λ n is. record { within = is.within; flushed = is.flushed; not_foreseen = is.not_foreseen }) (λ n is. is) (λ m n is. is)
+    (λ n is. record { within = is.within; flushed = is.flushed; not_foreseen = is.not_foreseen }) (λ n is. is)
     (λ m is. record { within = is.within; known = is.known; not_foreseen = is.not_foreseen; absent = is.absent }) right
 right_without trace some others (Some run) start touch right =
     right_as run.start (joined_traces run.trace (record trace { dumps = some })) (joined_traces run.trace (record trace { dumps = others }))
     (touch_behind (length run.trace.events) (length run.trace.log) touch)
-    (λ n is. record { within = is.within; flushed = is.flushed; not_foreseen = is.not_foreseen }) (λ n is. is) (λ m n is. is)
+    (λ n is. record { within = is.within; flushed = is.flushed; not_foreseen = is.not_foreseen }) (λ n is. is)
     (λ m is. record { within = is.within; known = is.known; not_foreseen = is.not_foreseen; absent = is.absent }) right
 
 module _ (trace : Recording) (some others : List Image) where

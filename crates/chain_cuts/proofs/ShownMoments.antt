@@ -4,26 +4,22 @@ use Rattle.std.specs.Prelude.{⊤}
 use Rattle.vs_types.specs.Space.{Space}
 use Rattle.nr_trace.specs.Recording.{Recording}
 use Rattle.nr_joined.specs.Joined.{joined_traces}
-use Rattle.nr_joined.specs.Run.{Run}
-use Rattle.nr_joined.proofs.Orders.{AreOf}
-use Rattle.nr_joined.proofs.Parts.{HasEarlierCalls}
+use Rattle.nr_joined.specs.Run.{Run, IsOrderly}
 use Rattle.nr_touch.specs.Touches.{touch_behind, IsRightBehind, IsRightTouch}
-use Rattle.nr_touch.specs.declared.touch.Touch.{Touch}
-use Rattle.nr_chain.proofs.Touched.{in_time_at_back, in_time_front, kept_back, kept_front, lagging_back, lagging_front}
+use Rattle.nr_touch.specs.declared.touches.touch.Touch.{Touch}
+use Rattle.nr_chain.proofs.Touched.{in_time_at_back, in_time_front, lagging_back, lagging_front}
 use Rattle.chain_cuts.specs.Moments.{until_cut, Moments, Show, ShowBehind}
-use Rattle.chain_cuts.specs.Moments.Moments.{InTime, Kept, Lagging}
+use Rattle.chain_cuts.specs.Moments.Moments.{InTime, Lagging}
 
 -- ---- a touch is right exactly where some moments show it
 
 shown_in : (start : Space) (trace : Recording) (touch : Touch) → IsRightTouch start trace touch → (moments : Moments) × Show start trace touch moments
 shown_in start trace touch (inl (n, allowed, answered)) = (InTime n, (allowed, answered))
-shown_in start trace touch (inr (inl (fault, m, n, it))) = (Kept m n, (fault, it))
-shown_in start trace touch (inr (inr (fault, m, it))) = (Lagging m, (fault, it))
+shown_in start trace touch (inr (fault, m, it)) = (Lagging m, (fault, it))
 
 right_in : (start : Space) (trace : Recording) (touch : Touch) (moments : Moments) → Show start trace touch moments → IsRightTouch start trace touch
 right_in start trace touch (InTime n) (allowed, answered) = inl (n, allowed, answered)
-right_in start trace touch (Kept m n) (fault, it) = inr (inl (fault, m, n, it))
-right_in start trace touch (Lagging m) (fault, it) = inr (inr (fault, m, it))
+right_in start trace touch (Lagging m) (fault, it) = inr (fault, m, it)
 
 pub shown : (before : Option Run) (start : Space) (segment : Recording) (touch : Touch) → IsRightBehind before start segment touch
     → (moments : Moments) × ShowBehind before start segment touch moments
@@ -42,17 +38,14 @@ right_by (Some run) start segment touch moments show =
 -- if the moment is of a table that lagged, the one is at most the other
 abbrev pub IsFewer : Moments → ℕ → ℕ → Type 0
 IsFewer (InTime n) few many = ⊤
-IsFewer (Kept m n) few many = ⊤
 IsFewer (Lagging m) few many = few ≤ many
 
 pub fewer : (moments : Moments) (few many : ℕ) → few ≤ many → IsFewer moments few many
 fewer (InTime n) few many low = tt
-fewer (Kept m n) few many low = tt
 fewer (Lagging m) few many low = low
 
 pub fewer_behind : (moments : Moments) (before few many : ℕ) → IsFewer moments few many → IsFewer moments (before + few) (before + many)
 fewer_behind (InTime n) before few many low = tt
-fewer_behind (Kept m n) before few many low = tt
 fewer_behind (Lagging m) before few many low = omega (arith, low)
 
 -- the same moments show a touch of which fewer entries are known at its replica; and one of which more are, where its table didn't lag
@@ -62,15 +55,6 @@ with_known start trace touch known (InTime n) few (allowed, answered) = (
   record { within = allowed.within; flushed = allowed.flushed; not_foreseen = allowed.not_foreseen },
   answered,
 )
-with_known start trace touch known (Kept m n) few (fault, it) = (
-  fault,
-  record {
-    allowed = record { within = it.allowed.within; flushed = it.allowed.flushed; not_foreseen = it.allowed.not_foreseen };
-    before = it.before;
-    widens = it.widens;
-    answered = it.answered;
-  },
-)
 with_known start trace touch known (Lagging m) few (fault, it) = (
   fault,
   record { within = it.within; known = let all = it.known in omega (arith, few, all); not_foreseen = it.not_foreseen; absent = it.absent },
@@ -78,15 +62,13 @@ with_known start trace touch known (Lagging m) few (fault, it) = (
 
 -- ---- in the first and in both
 
-module _ (start : Space) (first second : Recording) (same_layout : second.layout ≡ first.layout) (own : AreOf first first.log) (touch : Touch) where
-  pub show_front : HasEarlierCalls first → touch.made < length first.events → (moments : Moments) → Show start first touch moments
+module _ (start : Space) (first second : Recording) (same_layout : second.layout ≡ first.layout) (orderly : IsOrderly first) (touch : Touch) where
+  pub show_front : touch.made < length first.events → (moments : Moments) → Show start first touch moments
       → Show start (joined_traces first second) touch moments
-  show_front earlier inside (InTime n) (allowed, answered) = in_time_front start first second same_layout own earlier touch n inside allowed answered
-  show_front earlier inside (Kept m n) (fault, it) = (fault, kept_front start first second same_layout own earlier touch m n inside it)
-  show_front earlier inside (Lagging m) (fault, it) = (fault, lagging_front start first second same_layout own earlier touch m it)
+  show_front inside (InTime n) (allowed, answered) = in_time_front start first second same_layout orderly touch n inside allowed answered
+  show_front inside (Lagging m) (fault, it) = (fault, lagging_front start first second same_layout orderly touch m it)
 
   pub show_back : touch.answered < length first.events → touch.known ≤ length first.log → (moments : Moments)
       → Show start (joined_traces first second) touch moments → Show start first touch (until_cut (length first.log) moments)
-  show_back inside known (InTime n) (allowed, answered) = in_time_at_back start first second same_layout own touch n inside allowed answered
-  show_back inside known (Kept m n) (fault, it) = (fault, kept_back start first second same_layout own touch m n inside it)
-  show_back inside known (Lagging m) (fault, it) = (fault, lagging_back start first second same_layout own touch m inside known it)
+  show_back inside known (InTime n) (allowed, answered) = in_time_at_back start first second same_layout orderly touch n inside allowed answered
+  show_back inside known (Lagging m) (fault, it) = (fault, lagging_back start first second same_layout orderly touch m inside known it)

@@ -11,15 +11,15 @@ use Rattle.nr_joined.specs.Joined.{calls_behind, event_behind, joined_traces}
 use Rattle.nr_joined.specs.Run.{Run, run_with, IsOrderly}
 use Rattle.nr_joined.proofs.Associated.{joined_associate}
 use Rattle.nr_joined.proofs.Lists.{split_at}
-use Rattle.nr_joined.proofs.Orderly.{clean_is_orderly, orderly_both, own_calls}
+use Rattle.nr_joined.proofs.Orderly.{clean_is_orderly, orderly_both}
 use Rattle.nr_joined.proofs.Parts.{touch_left, touch_right, reply_behind, reply_left, reply_right, reply_from_right}
 use Rattle.nr_touch.specs.Touches.{touch_behind, IsRightBehind}
-use Rattle.nr_touch.specs.declared.touch.Touch.{Touch}
+use Rattle.nr_touch.specs.declared.touches.touch.Touch.{Touch}
 use Rattle.nr_audit.specs.Touches.{known_when, HasTouch, HasRightTouches}
 use Rattle.nr_audit.proofs.KnownEntries.{made_of}
 use Rattle.chain_cuts.specs.Cut.{HaveCaughtUp, MayCome}
 use Rattle.chain_cuts.specs.Moments.{touch_in_both, until_cut, HadCaughtUp, IsOfSecond, Moments, Show, ShowBehind}
-use Rattle.chain_cuts.specs.Moments.Moments.{InTime, Kept, Lagging}
+use Rattle.chain_cuts.specs.Moments.Moments.{InTime, Lagging}
 use Rattle.chain_cuts.proofs.KnownApart.{known_few_when, known_when_least, known_when_left, known_when_most}
 use Rattle.chain_cuts.proofs.ShownMoments.{fewer, fewer_behind, right_by, show_back, show_front, shown, with_known, IsFewer}
 
@@ -66,7 +66,6 @@ module _ (first second : Recording) (clean : HasCleanLog first) where
   rest_known : (touch : Touch) → HasTouch second touch → (moments : Moments) → HadCaughtUp first second touch moments
       → IsFewer moments (length first.log + touch.known) (known_when whole (length first.events + touch.made))
   rest_known touch has (InTime n) caught = tt
-  rest_known touch has (Kept m n) caught = tt
   rest_known touch has (Lagging m) caught =
       let (made, is) = made_of second touch.made _ has.asks in
       let least = known_when_least first second clean touch.made made is (caught made is) in
@@ -160,26 +159,26 @@ module _ (start : Space) (first second : Recording) (same_layout : second.layout
   pub moments_front : (before : Option Run) → MayCome before first.layout → (touch : Touch) → HasTouch first touch → (moments : Moments)
       → ShowBehind before start first touch moments → ShowBehind before start both touch moments
   moments_front None may touch has moments show =
-      show_front start first second same_layout (own_calls first orderly) touch orderly.earlier (asked_first first second clean touch has).0 moments show
+      show_front start first second same_layout orderly touch (asked_first first second clean touch has).0 moments show
   moments_front (Some run) (run_orderly, layout) touch has moments show =
       let front = joined_traces run.trace first in
       let front_orderly = orderly_both run.trace first run_orderly orderly in
       let inside = (asked_first first second clean touch has).0 in
       subst (λ (r : Recording). Show run.start r (behind run.trace touch) moments) (joined_associate run.trace first second)
-      (show_front run.start front second (same_layout ∙ layout) (own_calls front front_orderly) (behind run.trace touch) front_orderly.earlier
+      (show_front run.start front second (same_layout ∙ layout) front_orderly (behind run.trace touch)
       (omega (arith, inside, many_events run.trace first)) moments show)
 
   pub moments_back : (before : Option Run) → MayCome before first.layout → (touch : Touch) → HasTouch first touch → (moments : Moments)
       → ShowBehind before start both touch moments
       → ShowBehind before start first touch (until_cut (length (run_with before start first).trace.log) moments)
   moments_back None may touch has moments show =
-      show_back start first second same_layout (own_calls first orderly) touch (asked_first first second clean touch has).1
+      show_back start first second same_layout orderly touch (asked_first first second clean touch has).1
       (known_first first second clean touch has) moments show
   moments_back (Some run) (run_orderly, layout) touch has moments show =
       let front = joined_traces run.trace first in
       let inside = (asked_first first second clean touch has).1 in
       let known = known_first first second clean touch has in
-      show_back run.start front second (same_layout ∙ layout) (own_calls front (orderly_both run.trace first run_orderly orderly)) (behind run.trace touch)
+      show_back run.start front second (same_layout ∙ layout) (orderly_both run.trace first run_orderly orderly) (behind run.trace touch)
       (omega (arith, inside, many_events run.trace first)) (omega (arith, known, many_places run.trace first)) moments
       (subst (λ (r : Recording). Show run.start r (behind run.trace touch) moments) (sym (joined_associate run.trace first second)) show)
 
@@ -217,7 +216,6 @@ module _ (start : Space) (first second : Recording) (same_layout : second.layout
   had_caught_up : (before : Option Run) → HaveCaughtUp first second → (touch : Touch) → HasTouch second touch → (moments : Moments)
       → ShowBehind before start both (touch_in_both first second touch) moments → HadCaughtUp first second touch moments
   had_caught_up before caught touch has (InTime n) show = tt
-  had_caught_up before caught touch has (Kept m n) show = tt
   had_caught_up None caught touch has (Lagging m) show = λ made is. caught touch made has show.0 is
   had_caught_up (Some run) caught touch has (Lagging m) show = λ made is. caught touch made has show.0 is
 

@@ -6,7 +6,7 @@ use Rattle.nr_trace.specs.Recording.{IsThere, Recording}
 use Rattle.nr_trace.specs.Calls.{Invocation, call_of, Answers}
 use Rattle.nr_trace.specs.Orders.{recorded_order}
 use Rattle.nr_touch.specs.Touches.{IsFaultOfNone}
-use Rattle.nr_touch.specs.declared.touch.Touch.{Touch}
+use Rattle.nr_touch.specs.declared.touches.touch.Touch.{Touch}
 use Rattle.nr_audit.specs.Faults.{IsSoundAfter}
 use Rattle.nr_audit.specs.Touches.{known_at, HasTouch}
 use Rattle.nr_joined.specs.Run.{Run, IsOrderly}

@@ -5,21 +5,18 @@ use Rattle.nr_trace.specs.Recording.{Recording}
 use Rattle.nr_trace.specs.Calls.{call_of, Invocation}
 use Rattle.nr_joined.specs.Joined.{joined_traces}
 use Rattle.nr_joined.specs.Run.{Run}
-use Rattle.nr_touch.specs.Touches.{touch_behind, IsAllowedPrefix, IsAnsweredAt, IsFaultOfNone, IsFaultOfPage, IsKeptFrom, IsLagging}
-use Rattle.nr_touch.specs.declared.touch.Touch.{Touch}
+use Rattle.nr_touch.specs.Touches.{touch_behind, IsAllowedPrefix, IsAnsweredAt, IsFaultOfNone, IsLagging}
+use Rattle.nr_touch.specs.declared.touches.touch.Touch.{Touch}
 use Rattle.nr_audit.specs.Touches.{known_at, known_when, HasTouch}
 
--- when a touch was answered; from when rights were kept that it faults by, and a later moment at which it may be answered; or at which a table lagged
--- that it faults by
+-- when a touch was answered; or when a table lagged that it faults by
 pub data Moments : Type 0 where
   InTime : (at : ℕ) → Moments
-  Kept : (since at : ℕ) → Moments
   Lagging : (at : ℕ) → Moments
 
 -- the moments show the touch to be right
 abbrev pub Show : Space → Recording → Touch → Moments → Type 0
 Show start trace touch (InTime at) = IsAllowedPrefix start trace touch at × IsAnsweredAt start trace touch at
-Show start trace touch (Kept since at) = IsFaultOfPage touch × IsKeptFrom start trace touch since at
 Show start trace touch (Lagging at) = IsFaultOfNone touch × IsLagging start trace touch at
 
 -- behind a run they are moments of the run with the segment
@@ -31,7 +28,6 @@ ShowBehind (Some run) start segment touch moments =
 -- the moments, of which one past a cut counts as the cut
 abbrev pub until_cut : ℕ → Moments → Moments
 until_cut cut (InTime at) = InTime (min cut at)
-until_cut cut (Kept since at) = Kept (min cut since) (min cut at)
 until_cut cut (Lagging at) = Lagging (min cut at)
 
 -- a touch of the second run as a touch of both as one: its events come behind those of the first, and its replica was known to have applied what is
@@ -50,6 +46,5 @@ IsOfSecond first second touch = (mine : Touch) × HasTouch second mine × (touch
 -- if the moment is of a table that lagged, its replica was known at the cut to have applied the whole log of the first run
 abbrev pub HadCaughtUp : Recording → Recording → Touch → Moments → Type 0
 HadCaughtUp first second touch (InTime at) = ⊤
-HadCaughtUp first second touch (Kept since at) = ⊤
 HadCaughtUp first second touch (Lagging at) = (made : Invocation) → call_of second touch.made ≡ Some made
     → known_at first made.replica (length first.events) ≡ length first.log

@@ -10,7 +10,7 @@ ghost use Rattle.nr_audit.specs.Faults.{IsSoundAfter};
 ghost use Rattle.nr_audit.specs.Releases.{HasRightReleases};
 ghost use Rattle.nr_audit.specs.Touches.{HasRightTouches, HasTouch};
 ghost use Rattle.nr_touch.specs.Touches.{IsRightBehind};
-ghost use Rattle.nr_touch.specs.declared.touch.Touch.{Touch};
+ghost use Rattle.nr_touch.specs.declared.touches.touch.Touch.{Touch};
 ghost use Rattle.nr_chain.specs.Bytes.{GoesOnSo, SpellsChain};
 ghost use Rattle.nr_chain.specs.Headline.{traces};
 ghost use Rattle.nr_joined.specs.Joined.{joined_traces};

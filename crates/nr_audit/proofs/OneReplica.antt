@@ -17,8 +17,8 @@ use Rattle.nr_joined.specs.Run.{Run, IsOrderly}
 use Rattle.nr_joined.proofs.Lists.{split_at}
 use Rattle.nr_joined.proofs.Parts.{answered_right}
 use Rattle.nr_joined.proofs.Places.{placed_in_right}
-use Rattle.nr_touch.specs.Touches.{touch_behind, IsAnsweredBefore, IsAnsweredInTime, IsFaultOfKept, IsRightTouch, LagsInNothing}
-use Rattle.nr_touch.specs.declared.touch.Touch.{Touch}
+use Rattle.nr_touch.specs.Touches.{touch_behind, IsAnsweredBefore, IsAnsweredInTime, IsRightTouch, LagsInNothing}
+use Rattle.nr_touch.specs.declared.touches.touch.Touch.{Touch}
 use Rattle.nr_touch.proofs.QuietPages.{right_in_time}
 use Rattle.nr_audit.specs.Touches.{known_at, HasTouch}
 use Rattle.nr_audit.proofs.KnownEntries.{known_below, made_of}
@@ -74,8 +74,8 @@ module _ (segment : Recording) (in_range : IsRecording segment) (one : segment.l
     lags_alone : (start : Space) → LagsInNothing start segment touch
     lags_alone start = λ fault place changes before. answered_is_known place before
 
-    pub in_time_or_kept : (start : Space) → IsRightTouch start segment touch → IsAnsweredInTime start segment touch ⊎ IsFaultOfKept start segment touch
-    in_time_or_kept start right = right_in_time start segment touch (lags_alone start) right
+    pub in_time_alone : (start : Space) → IsRightTouch start segment touch → IsAnsweredInTime start segment touch
+    in_time_alone start right = right_in_time start segment touch (lags_alone start) right
 
     -- so it is behind a run
     module _ (run : Run) (orderly : IsOrderly run.trace) where
@@ -95,11 +95,5 @@ module _ (segment : Recording) (in_range : IsRecording segment) (one : segment.l
             let low = answered_is_known k (mine, mine_is, (event, omega (arith, before, is), own)) in
             omega (arith, low, e)
 
-      pub behind_or_kept : IsRightTouch run.start whole later → IsAnsweredInTime run.start whole later ⊎ IsFaultOfKept run.start whole later
-      behind_or_kept right = right_in_time run.start whole later (λ fault place changes before. known_behind place before) right
-
--- either is right
-pub right_of : (start : Space) (trace : Recording) (touch : Touch) → IsAnsweredInTime start trace touch ⊎ IsFaultOfKept start trace touch
-    → IsRightTouch start trace touch
-right_of start trace touch (inl in_time) = inl in_time
-right_of start trace touch (inr kept) = inr (inl kept)
+      pub in_time_behind : IsRightTouch run.start whole later → IsAnsweredInTime run.start whole later
+      in_time_behind right = right_in_time run.start whole later (λ fault place changes before. known_behind place before) right

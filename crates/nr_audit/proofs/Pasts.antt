@@ -1,20 +1,23 @@
 -- What is kept of a run, and a segment that goes on with it.
-use Rattle.std.proofs.Common.{◌≡◌, ℕ, false, slice_get, Option, Some, None, option_map, IfSome, refl, sym, ap, ◌∙◌, subst}
+use Rattle.std.proofs.Common.{◌≡◌, ◌↔◌, ℕ, false, inl, inr, List, [], length, slice_get, Option, Some, None, option_map, IfSome, refl, sym, ap, ◌∙◌, subst, arith}
+use Rattle.std.proofs.lemmas.List.{append-nil}
 use Rattle.std.proofs.lemmas.Option.{slice_get_within}
 use Rattle.vs_types.specs.Config.{Layout}
 use Rattle.vs_types.specs.Space.{IsSpace, Space}
 use Rattle.vs_types.specs.declared.op.Action.TheVariants.{Protect}
 use Rattle.vs_plain.specs.Plain.{BoundedSpace}
-use Rattle.nr_trace.specs.Recording.{Recording}
+use Rattle.vs_types.proofs.Lists.{not_in_nil}
+use Rattle.nr_trace.specs.Recording.{IsRecording, Recording}
 use Rattle.nr_trace.specs.Laws.{HasCleanLog}
 use Rattle.nr_trace.specs.Orders.{space_from}
-use Rattle.nr_joined.specs.Run.{Run, end_of, run_with}
+use Rattle.nr_joined.specs.Run.{Run, end_of, run_with, IsOrderly}
 use Rattle.nr_joined.proofs.Orderly.{clean_is_orderly, space_of_both}
-use Rattle.nr_touch.specs.Tails.{GoesOn, IsSoundTail, IsTailOf, IsTailOfRun}
-use Rattle.nr_touch.specs.declared.tail.Tail.{Tail}
-use Rattle.nr_touch.proofs.NoneLeft.{nothing_left}
-use Rattle.nr_touch.proofs.Behind.{change_within}
-use Rattle.nr_touch.proofs.NotWidened.{place_widens_not, HasNoProtect}
+use Rattle.nr_touch.specs.Tails.{GoesOn, IsLeft, IsSoundTail, IsTailOf, IsTailOfRun}
+use Rattle.nr_touch.specs.inside.Indexed.{HasPages}
+use Rattle.nr_touch.specs.declared.touches.tail.Left.{Left}
+use Rattle.nr_touch.specs.declared.touches.tail.Tail.{Tail}
+use Rattle.nr_touch.proofs.cuts.NoProtects.{each_ends, HasNoProtect}
+use Rattle.nr_touch.proofs.cuts.Tails.{index_of_tail, nothing_left, tail_with}
 use Rattle.nr_audit.specs.Segments.{pages_before, run_after, FitsLayout, FitsPast, IsBehind, IsKept}
 use Rattle.nr_audit.specs.Start.{begins_in, first_space, space_before, BeginsRight}
 use Rattle.nr_audit.specs.Verdict.{space_of}
@@ -101,11 +104,25 @@ no_protect segment plain place call base rights placed is =
     let none = plain place (slice_get_within segment.log place call placed) call placed in
     absurd (let both : is_protect (Some (Protect base rights)) ≡ false = sym (ap is_protect is) ∙ none in cc)
 
+-- a segment with an empty log leaves what was left
+left_empty : (run : Option Run) (start : Space) (segment : Recording) (tail : Tail) → IsTailOf run tail → GoesOn run segment start
+    → IsOrderly segment → IsRecording segment → segment.log ≡ [] → IsTailOf (Some (run_with run start segment)) tail
+left_empty run start segment tail of_tail goes_on orderly in_range empty =
+    tail_with start segment orderly [] (record {
+      each = λ c has. absurd (not_in_nil c has);
+      all = λ place address less. absurd (let none = ap length empty in omega (arith, less, none));
+    }) (λ i j d low less. absurd (omega (arith, less))) (let most = in_range.few_events in omega (arith, most)) run tail tail
+    (subst (λ (calls : List ℕ). IfSome tail.index (λ i. HasPages i (space_from start segment calls))) (sym empty)
+    (index_of_tail run start segment tail goes_on of_tail)) of_tail goes_on
+    (λ address page. subst (λ (changes : List Left). IsLeft tail.changes.items address page ↔ IsLeft changes address page)
+    (sym (append-nil tail.changes.items)) ((λ it. it), λ it. it))
+
 -- a segment that need not be replayed leaves what was left
 pub left_quiet : (run : Option Run) (start : Space) (segment : Recording) (tail : Tail) → IsTailOf run tail → GoesOn run segment start
     → HasCleanLog segment → IsQuiet segment tail → IsSpace segment.layout.depth start → IsTailOf (Some (run_with run start segment)) tail
-left_quiet run start segment tail of_tail goes_on clean quiet is =
-    nothing_left segment (λ place call at. quiet.answered place (slice_get_within segment.log place call at) call at)
-    run start tail of_tail quiet.none goes_on (clean_is_orderly segment clean) (λ address place changes widened.
-    place_widens_not segment quiet.in_range clean (no_protect segment quiet.plain) start is address place
-    (change_within start segment address place changes) widened changes)
+left_quiet run start segment tail of_tail goes_on clean quiet is = elim quiet.leaves [
+  | inl empty ↦ left_empty run start segment tail of_tail goes_on (clean_is_orderly segment clean) quiet.in_range empty
+  | inr nothing ↦ nothing_left segment (λ place call at. nothing.answered place (slice_get_within segment.log place call at) call at)
+      run start tail of_tail nothing.none goes_on (clean_is_orderly segment clean)
+      (each_ends segment quiet.in_range clean (no_protect segment nothing.plain) start is)
+]

@@ -27,9 +27,8 @@ use Rattle.nr_dump.proofs.Faultless.{faultless_fits}
 use Rattle.nr_trace.specs.Recording.{Recording, IsRecording, IsStart}
 use Rattle.nr_trace.specs.Laws.{IsFaultlessFrom}
 use Rattle.nr_joined.specs.Run.{Run, end_of, IsOrderly}
-use Rattle.nr_joined.proofs.Orderly.{own_calls}
 use Rattle.nr_touch.specs.Touches.{IsRightTouch}
-use Rattle.nr_touch.proofs.Behind.{right_rest}
+use Rattle.nr_touch.proofs.cuts.Behind.{right_rest}
 use Rattle.nr_audit.specs.Start.{begins_in, space_before, space_of_pages, start_space, BeginsRight, HasPageBeyond, HasStartFault}
 use Rattle.nr_audit.specs.Faults.{HasNoFaultAfter, IsSoundAfter}
 use Rattle.nr_audit.specs.Releases.{HasRightReleases, HasSettledReleases}
@@ -126,7 +125,7 @@ module _ (segment : Recording) (start : Image) (run : Run) (orderly : IsOrderly 
   sound_behind settled sound =
       sound_by (Some run) segment (none_behind (begins_of None segment sound.faultless))
       (subst (λ s. IsFaultlessFrom s segment) leads (faultless_of None segment sound.faultless))
-      (λ touch has. right_rest run.start run.trace segment same_layout (own_calls run.trace orderly) orderly.earlier orderly.own touch
+      (λ touch has. right_rest run.start run.trace segment same_layout orderly touch
       (subst (λ s. IsRightTouch s segment touch) leads (sound.touches touch has)))
       (released_behind run segment orderly same_layout settled
       (subst (λ s. HasRightReleases None s segment) leads (releases_of None segment sound)))

@@ -19,7 +19,7 @@ use Rattle.nr_trace.specs.declared.event.Event.{Event}
 use Rattle.nr_trace.specs.declared.event.Event.TheVariants as events
 use Rattle.nr_joined.specs.Run.{Run}
 use Rattle.nr_touch.specs.Stale.{FindsStale}
-use Rattle.nr_touch.specs.declared.touch.Touch.{Touch}
+use Rattle.nr_touch.specs.declared.touches.touch.Touch.{Touch}
 use Rattle.nr_audit.specs.Touches.{known_when, HasRightTouches, HasTouch, IsStale}
 use Rattle.nr_audit.specs.inside.Begun.{is_protect, touch_by, touch_between, AreTouchesBelow, IsPlaceAnswered, IsPlacePlain, IsFirstStale, IsTouchAt}
 use Rattle.nr_audit.specs.inside.Tables.{IsReplyBelow}

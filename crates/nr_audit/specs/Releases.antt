@@ -1,14 +1,15 @@
 -- The releases of a segment, and which are wrong.
 use Rattle.std.specs.Prelude.{◌≡◌, ◌↔◌, ℕ, Option, Some, IsTrue}
-use Rattle.vs_types.specs.Space.{Space}
+use Rattle.vs_types.specs.Space.{Space, page_at}
 use Rattle.vs_types.specs.declared.answer.Answer.TheVariants.{Done}
 use Rattle.vs_types.specs.declared.page.Page.{Page}
 use Rattle.nr_trace.specs.Recording.{Recording}
 use Rattle.nr_trace.specs.Calls.{released_of, Response, reply_of}
-use Rattle.nr_joined.specs.Run.{Run}
+use Rattle.nr_joined.specs.Run.{Run, end_of}
 use Rattle.nr_touch.specs.Releases.{IsWrongRelease}
 use Rattle.nr_touch.specs.Tails.{Lingers}
-use Rattle.nr_touch.specs.declared.release.Release.{Release}
+use Rattle.nr_touch.specs.inside.Reached.{IsSamePlace}
+use Rattle.nr_touch.specs.declared.releases.release.Release.{Release}
 
 -- a call is answered by nothing but Done
 abbrev pub IsDoneOrOpen : Recording → ℕ → Type 0
@@ -28,9 +29,10 @@ abbrev pub IsWrongAt : Option Run → Space → Recording → ℕ → Type 0
 IsWrongAt before start segment call =
     (release : Release) × HasRelease segment release × (release.made ≡ call) × IsWrongRelease before start segment release
 
--- behind the run no address may still be found to look otherwise than it does
+-- behind the run each page that may still be found at an address leads to the memory of the page that is there at its end, whatever their rights
 abbrev pub IsSettled : Run → Type 0
-IsSettled run = (address : ℕ) (page : Option Page) → Lingers run.start run.trace address page → ⊥
+IsSettled run = (address : ℕ) (page : Page) → Lingers run.start run.trace address (Some page)
+    → (own : Page) × (page_at (end_of run) address ≡ Some own) × IsSamePlace page own
 
 -- where the segment gives memory away, the run before it is settled
 abbrev pub HasSettledReleases : Run → Recording → Type 0

@@ -8,7 +8,7 @@ use Rattle.nr_trace.specs.Calls.{call_of, touch_of, Response, reply_in, reply_of
 use Rattle.nr_trace.specs.Orders.{known_by}
 use Rattle.nr_joined.specs.Run.{Run}
 use Rattle.nr_touch.specs.Touches.{IsRightBehind}
-use Rattle.nr_touch.specs.declared.touch.Touch.{Touch}
+use Rattle.nr_touch.specs.declared.touches.touch.Touch.{Touch}
 
 -- how many entries a reply shows that a replica has applied: those that are known by it, if its call was made there
 abbrev pub known_to : Recording → ℕ → Response → ℕ

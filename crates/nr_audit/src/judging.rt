@@ -52,16 +52,17 @@ fn parts_of(alloc: Global, before: Option<Past>) -> (Option<PlainSpace>, Tail)
 /// once, and keeps what came before what; each answer is that of one sequential address space, from the space on with which the
 /// segment begins; each dump that is there translates every canonical address as that space does after so many updates as the
 /// replica had applied; each answered touch was answered as its address was at some moment of the whole run so far which no flush had
-/// ended before the touch began, or faulted by rights that were kept or by a table that lags; and no release is wrong. An update that
-/// its segment doesn't answer is never over. A refusal does not say that no other order explains it.
+/// ended before the touch began, or faulted by a table that lags; and no release is wrong. An update that its segment doesn't answer is
+/// never over. A refusal does not say that no other order explains it.
 ///
 /// Allocates memory beside the trace: at most 16 bytes for each event and 4 for each thread, or where there are more threads than
-/// events an entry of a map for each thread that makes a call; where there are touches, releases or protects, where a call has no reply,
-/// where something was left open before, or once memory was released, 8 bytes more for each event, the touches and releases, and the
-/// changes of the space, which are done and undone; and, when these are freed but for 4 bytes for each call of the order, for
-/// the pages of the space and what the check of a dump takes. It takes time for the segment's own events, log, start and dumps, and
-/// for the changes of updates without a reply, and not for the pages of the space before. Only the first segment with releases lists
-/// all pages, in an index that is kept for the next ones: four rows of 16 bytes for each page.
+/// events an entry of a map for each thread that makes a call; where there are touches or releases, or updates of which one is a protect
+/// or has no reply, or updates behind something that was left open or behind a release, 8 bytes more for each event, the touches and
+/// releases, and the changes of the space, which are done and undone; and, when these are freed but for 4 bytes for each call of the
+/// order, for the pages of the space and what the check of a dump takes. It takes time for the segment's own events, log, start and
+/// dumps, and for what was left open, and not for the pages of the space before. A segment without updates, touches and releases takes
+/// none for what was left open. Only the first segment with releases lists all pages, in an index that is kept for the next ones: four
+/// rows of 16 bytes for each page.
 ///
 /// # Errors
 ///

@@ -1,6 +1,6 @@
 //! Laws of the definitions in `specs/`. Each function does nothing: its clauses say what holds of all bytes, traces and segments.
 
-ghost use Rattle.std.specs.Prelude.{◌≡◌, ◌↔◌, ◌⊎◌, ℕ, length, IfSome, List, Option, Some, None};
+ghost use Rattle.std.specs.Prelude.{◌≡◌, ◌↔◌, ℕ, length, IfSome, List, Option, Some, None};
 ghost use Rattle.vs_types.specs.Space.{IsSpace, Space};
 ghost use Rattle.vs_walk.specs.Dump.{Image};
 ghost use Rattle.vs_walk.specs.Walk.{TranslatesAs};
@@ -11,8 +11,8 @@ ghost use Rattle.nr_trace.specs.declared.fault.Fault.{Fault};
 ghost use Rattle.nr_audit.specs.Faults.{HasNoFaultAfter, IsFirstAfter, IsSoundAfter};
 ghost use Rattle.nr_joined.specs.Joined.{joined_traces};
 ghost use Rattle.nr_joined.specs.Run.{Run, end_of, IsOrderly};
-ghost use Rattle.nr_touch.specs.Touches.{touch_behind, IsAnsweredInTime, IsFaultOfKept, IsRightBehind, IsRightTouch};
-ghost use Rattle.nr_touch.specs.declared.touch.Touch.{Touch};
+ghost use Rattle.nr_touch.specs.Touches.{touch_behind, IsAnsweredInTime, IsRightBehind, IsRightTouch};
+ghost use Rattle.nr_touch.specs.declared.touches.touch.Touch.{Touch};
 ghost use Rattle.nr_audit.specs.Touches.{HasTouch};
 ghost use Rattle.nr_audit.specs.Releases.{HasSettledReleases};
 ghost use Rattle.nr_audit.specs.Start.{begins_in, space_before, start_space};
@@ -69,17 +69,16 @@ pub fn segments_go_on_from_their_starts()
 {}
 
 /// The table of the only replica never lags: where a segment has one, a touch is right just where it is answered as its address was at a
-/// moment that no flush had ended before, or faults by rights that were kept; by itself, and behind other segments.
+/// moment that no flush had ended before; by itself, and behind other segments.
 pub fn one_replica_never_lags()
     ensures alone { (start : Space) (segment : Recording) (touch : Touch) → IsRecording segment
         → segment.layout.replicas ≡ 1 → HasCleanLog segment → HasTouch segment touch
-        → IsRightTouch start segment touch
-        ↔ (IsAnsweredInTime start segment touch ⊎ IsFaultOfKept start segment touch) }
+        → IsRightTouch start segment touch ↔ IsAnsweredInTime start segment touch }
     ensures behind { (run : Run) (start : Space) (segment : Recording) (touch : Touch)
         → IsRecording segment → segment.layout.replicas ≡ 1 → HasCleanLog segment
         → HasTouch segment touch → IsOrderly run.trace
         → let whole : Recording = joined_traces run.trace segment in
         let later : Touch = touch_behind (length run.trace.events) (length run.trace.log) touch in
         IsRightBehind (Some run) start segment touch
-        ↔ (IsAnsweredInTime run.start whole later ⊎ IsFaultOfKept run.start whole later) }
+        ↔ IsAnsweredInTime run.start whole later }
 {}

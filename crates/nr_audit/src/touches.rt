@@ -1,6 +1,6 @@
 //! The touches of a segment.
 
-ghost use Rattle.std.specs.Prelude.{◌≡◌, ◌↔◌, ◌+◌, ◌^◌, ◌<◌, false, IfNone, IfOk, IfSome, IsTrue, OnOk, length};
+ghost use Rattle.std.specs.Prelude.{◌≡◌, ◌↔◌, ◌+◌, ◌^◌, ◌<◌, [], false, IfNone, IfOk, IfSome, IsTrue, OnOk, length};
 ghost use Rattle.std.specs.Prelude.{option_and_then, option_map, slice_get, Option, Some};
 ghost use Rattle.nr_trace.specs.Laws.{HasCleanLog};
 ghost use Rattle.nr_joined.specs.Run.{Run, run_with};
@@ -94,14 +94,25 @@ fn are_plain(segment: &Trace, history: &History) -> bool
     true
 }
 
-/// Whether nothing is left by the segments so far, the segment has no touch, release or protect, and nothing is left by it: then it need
-/// not be replayed.
+/// Whether no update is in the log.
+fn has_no_log(segment: &Trace) -> bool
+    ensures empty { IsTrue result → segment.now.log ≡ [] }
+    ensures in_range { IsRecording segment.now }
+{
+    segment.log().is_empty()
+}
+
+/// Whether the segment has no touch or release and leaves what was left so far: its log is empty; or nothing is left by the segments so
+/// far, and the log has answered calls alone, and no protect. Then it need not be replayed.
 fn is_quiet(segment: &Trace, history: &History, tail: &Tail) -> bool
     requires { history.now ≡ segment.now }
     ensures { IsTrue result → IsQuiet segment.now tail.now }
 {
     if has_touches(segment) {
         return false;
+    }
+    if has_no_log(segment) {
+        return true;
     }
     if !tail.is_none() {
         return false;
@@ -241,8 +252,8 @@ pub(crate) struct Touched {
 
 /// The call numbers of the first touch that is stale, and of the first release that is wrong, or `None` each, where the segment begins with
 /// this space, behind segments that left this; what is left then; and the space again. Of a segment whose log isn't clean nothing is said
-/// but that the space comes back. Where nothing is left so far, no touch, release or protect is made and each call of the log is answered,
-/// nothing is replayed. It allocates memory for the touches, and for the replay of the log, which is undone.
+/// but that the space comes back. Where no touch or release is made, an empty log isn't replayed; nor is one of answered maps and unmaps
+/// where nothing is left so far. It allocates memory for the touches, and for the replay of the log, which is undone.
 pub(crate) fn stale_touch(
     alloc: Global,
     segment: &Trace,

@@ -1,28 +1,33 @@
 -- Parts of the bytes of a chain, one behind the other.
-use Rattle.std.proofs.Common.{◌≡◌, inl, inr, ℕ, ◌+◌, List, [], ◌∷◌, ◌++◌, length, map, Option, Some, None, option_map, refl, sym, ap, subst, ◌∙◌, arith}
+use Rattle.std.proofs.Common.{◌≡◌, ◌⊎◌, inl, inr, ℕ, ◌+◌, List, [], ◌∷◌, ◌++◌, length, map, Option, Some, None, option_map, refl, sym, ap, subst, ◌∙◌, arith}
 use Rattle.std.specs.Prelude.{IfSome}
 use Rattle.std.proofs.lemmas.List.{append_assoc, length-append, length-map}
 use Rattle.std.proofs.lemmas.Option.{same_Some}
 use Rattle.vs_types.specs.Config.{Layout}
 use Rattle.vs_types.specs.Space.{Space}
+use Rattle.vs_types.specs.Step.{allow_in_page}
+use Rattle.vs_types.specs.declared.page.Page.{Page}
 use Rattle.nr_trace.specs.Recording.{Recording}
 use Rattle.nr_trace.specs.Orders.{space_from}
 use Rattle.nr_trace.specs.Laws.{IsFaultlessFrom}
 use Rattle.nr_joined.specs.Joined.{calls_behind, event_behind, joined_traces}
 use Rattle.nr_joined.specs.Run.{Run, end_of, IsOrderly}
 use Rattle.nr_joined.proofs.Associated.{joined_associate}
-use Rattle.nr_joined.proofs.Orderly.{clean_is_orderly, orderly_both, own_calls, space_of_both}
+use Rattle.nr_joined.proofs.Orderly.{clean_is_orderly, orderly_both, space_of_both}
 use Rattle.nr_touch.specs.Releases.{IsReachable, IsWrongRelease}
+use Rattle.nr_touch.specs.Tails.{Lingers}
 use Rattle.nr_touch.specs.Touches.{touch_behind, IsAnsweredInTime, IsRightTouch}
-use Rattle.nr_touch.specs.declared.release.Release.{Release}
-use Rattle.nr_touch.specs.declared.touch.Touch.{Touch}
-use Rattle.nr_touch.proofs.Behind.{in_time_parts, right_rest}
+use Rattle.nr_touch.specs.inside.Earlier.{EndsNowhere}
+use Rattle.nr_touch.specs.inside.Reached.{probe_at}
+use Rattle.nr_touch.specs.declared.releases.release.Release.{Release}
+use Rattle.nr_touch.specs.declared.touches.touch.Touch.{Touch}
+use Rattle.nr_touch.proofs.cuts.Behind.{in_time_parts, right_rest}
 use Rattle.nr_audit.specs.Faults.{IsSoundAfter}
 use Rattle.nr_audit.specs.Segments.{run_after}
 use Rattle.nr_audit.specs.Releases.{HasRightReleases, HasSettledReleases, IsSettled}
 use Rattle.nr_audit.specs.Start.{BeginsRight}
 use Rattle.nr_audit.proofs.Judgements.{begins_of, clean_of, faultless_of, releases_of, sound_by}
-use Rattle.nr_audit.proofs.ReleasesBehind.{found_in_time}
+use Rattle.nr_audit.proofs.ReleasesBehind.{found_in_time, settled_reach}
 use Rattle.nr_trace.specs.Versions.{Follows}
 use Rattle.nr_trace.specs.declared.version.Form.TheVariants as forms
 use Rattle.nr_chain.specs.Bytes.{layout_before, BeginsWith, EndsWith, GoesOnSo, SpellAll}
@@ -120,34 +125,54 @@ module _ (end : Run) (orderly : IsOrderly end.trace) (run : Run) (own : IsOrderl
   right_later segment touch right =
       subst (λ (t : Touch). IsRightTouch end.start (joined_traces (joined_traces end.trace run.trace) segment) t) (same_touch touch)
       (subst (λ (r : Recording). IsRightTouch end.start r (behind_end (behind_run touch))) (sym (joined_associate end.trace run.trace segment))
-      (right_rest end.start end.trace (joined_traces run.trace segment) same_layout (own_calls end.trace orderly) orderly.earlier orderly.own
+      (right_rest end.start end.trace (joined_traces run.trace segment) same_layout orderly
       (behind_run touch) (subst (λ (s : Space). IsRightTouch s (joined_traces run.trace segment) (behind_run touch)) leads right)))
-
-  in_time_before : IsSettled end → (segment : Recording) (touch : Touch)
-      → IsAnsweredInTime end.start (joined_traces (joined_traces end.trace run.trace) segment) (behind_both touch)
-      → IsAnsweredInTime run.start (joined_traces run.trace segment) (behind_run touch)
-  in_time_before settled segment touch in_time =
-      let there : IsAnsweredInTime end.start (joined_traces end.trace (joined_traces run.trace segment)) (behind_end (behind_run touch)) =
-      subst (λ (r : Recording). IsAnsweredInTime end.start r (behind_end (behind_run touch))) (joined_associate end.trace run.trace segment)
-      (subst (λ (t : Touch). IsAnsweredInTime end.start (joined_traces (joined_traces end.trace run.trace) segment) t) (sym (same_touch touch)) in_time) in
-      elim (in_time_parts end.start end.trace (joined_traces run.trace segment) same_layout (own_calls end.trace orderly) orderly.earlier orderly.own
-      (behind_run touch) there) [
-        | inl own_time ↦ subst (λ (s : Space). IsAnsweredInTime s (joined_traces run.trace segment) (behind_run touch)) (sym leads) own_time
-        | inr earlier ↦ absurd (settled touch.address earlier.1 earlier.2)
-      ]
 
   reached_before : IsSettled end → (segment : Recording) (release : Release)
       → IsReachable (Some (run_behind end run)) (end_of (run_behind end run)) segment release → IsReachable (Some run) (end_of run) segment release
-  reached_before settled segment release it = record {
-    touch = it.touch;
-    made = it.made;
-    answered = it.answered;
-    phys = it.phys;
-    finds = it.finds;
-    within = it.within;
-    right = inl (in_time_before settled segment it.touch
-        (found_in_time end.start (joined_traces (joined_traces end.trace run.trace) segment) (behind_both it.touch) it.phys it.finds it.right));
-  }
+  reached_before settled segment release it =
+      by (in_time_parts end.start end.trace whole same_layout orderly (behind_run it.touch) there) where
+        whole : Recording
+        whole = joined_traces run.trace segment
+
+        there : IsAnsweredInTime end.start (joined_traces end.trace whole) (behind_end (behind_run it.touch))
+        there =
+            subst (λ (r : Recording). IsAnsweredInTime end.start r (behind_end (behind_run it.touch))) (joined_associate end.trace run.trace segment)
+            (subst (λ (t : Touch). IsAnsweredInTime end.start (joined_traces (joined_traces end.trace run.trace) segment) t) (sym (same_touch it.touch))
+            (found_in_time end.start (joined_traces (joined_traces end.trace run.trace) segment) (behind_both it.touch) it.phys it.finds it.right))
+
+        by_page : (page : Option Page) → EndsNowhere (end_of end) whole it.touch.address page (behind_run it.touch).made
+            → Lingers end.start end.trace it.touch.address page → it.touch.answer ≡ allow_in_page it.touch.address it.touch.mode it.touch.access page
+            → IsReachable (Some run) (end_of run) segment release
+        by_page None none lingers answered = absurd (let both = sym it.finds ∙ answered in cc)
+        by_page (Some page) none lingers answered =
+            let (own, at, same) = settled it.touch.address page lingers in
+            record {
+              touch = probe_at release.made it.touch.address it.phys;
+              made = refl;
+              answered = refl;
+              phys = it.phys;
+              finds = refl;
+              within = it.within;
+              right = inl (subst (λ (s : Space). IsAnsweredInTime s whole (behind_run (probe_at release.made it.touch.address it.phys))) (sym leads)
+                  (settled_reach (end_of end) whole (behind_run it.touch) it.phys page own it.finds answered at same none
+                  (length run.trace.events + release.made) (length run.trace.log + 0) (ap (λ (n : ℕ). length run.trace.events + n) it.made)));
+            }
+
+        by : IsAnsweredInTime (end_of end) whole (behind_run it.touch)
+            ⊎ ((page : Option Page) × EndsNowhere (end_of end) whole it.touch.address page (behind_run it.touch).made
+            × Lingers end.start end.trace it.touch.address page × (it.touch.answer ≡ allow_in_page it.touch.address it.touch.mode it.touch.access page))
+            → IsReachable (Some run) (end_of run) segment release
+        by (inl own_time) = record {
+          touch = it.touch;
+          made = it.made;
+          answered = it.answered;
+          phys = it.phys;
+          finds = it.finds;
+          within = it.within;
+          right = inl (subst (λ (s : Space). IsAnsweredInTime s whole (behind_run it.touch)) (sym leads) own_time);
+        }
+        by (inr (page, none, lingers, answered)) = by_page page none lingers answered
 
   released_later : (segment : Recording) → HasSettledReleases end segment → HasRightReleases (Some run) (end_of run) segment
       → HasRightReleases (Some (run_behind end run)) (end_of (run_behind end run)) segment

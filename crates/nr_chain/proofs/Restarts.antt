@@ -8,9 +8,8 @@ use Rattle.nr_trace.specs.Recording.{IsRecording, Recording}
 use Rattle.nr_trace.specs.Laws.{IsFaultlessFrom}
 use Rattle.nr_audit.specs.Start.{start_space, BeginsRight}
 use Rattle.nr_joined.specs.Run.{Run, end_of, IsOrderly}
-use Rattle.nr_joined.proofs.Orderly.{own_calls}
 use Rattle.nr_touch.specs.Touches.{IsRightTouch}
-use Rattle.nr_touch.proofs.Behind.{right_rest}
+use Rattle.nr_touch.proofs.cuts.Behind.{right_rest}
 use Rattle.nr_audit.specs.Faults.{IsSoundAfter}
 use Rattle.nr_audit.specs.Releases.{HasRightReleases, HasSettledReleases}
 use Rattle.nr_audit.proofs.Judgements.{begins_of, faultless_of, releases_of, sound_by}
@@ -39,7 +38,7 @@ module _ (segment : Recording) (has : segment.start ≡ None) (sound : IsSoundAf
   without_start : HasSettledReleases run segment → IsSoundAfter (Some run) segment
   without_start settled = sound_by (Some run) segment begins
       (subst (λ (s : Space). IsFaultlessFrom s segment) none (faultless_of None segment sound.faultless))
-      (λ touch is. right_rest run.start run.trace segment same_layout (own_calls run.trace orderly) orderly.earlier orderly.own touch
+      (λ touch is. right_rest run.start run.trace segment same_layout orderly touch
       (subst (λ (s : Space). IsRightTouch s segment touch) none (sound.touches touch is)))
       (released_behind run segment orderly same_layout settled
       (subst (λ (s : Space). HasRightReleases None s segment) none (releases_of None segment sound)))

@@ -2,15 +2,19 @@
 use Rattle.std.proofs.Common.{◌≡◌, ℕ, ◌+◌, ◌<◌, inl, inr, List, [], ◌∷◌, ◌++◌, length, None, Some, refl}
 use Rattle.std.proofs.Common.{ap, ap₂, sym, ◌∙◌, subst, arith}
 use Rattle.std.specs.Prelude.{⊤}
+use Rattle.std.proofs.Math.Seq.{take-length}
 use Rattle.std.proofs.lemmas.List.{length-append, length-map}
+use Rattle.std.proofs.lemmas.Option.{slice_get_within}
 use Rattle.vs_types.specs.Space.{Space}
 use Rattle.nr_trace.specs.Recording.{Recording}
+use Rattle.nr_trace.proofs.LawsOfLists.{In}
+use Rattle.nr_trace.proofs.LawsOfPrecedence.{in_taken}
 use Rattle.nr_joined.specs.Joined.{calls_behind, joined_traces}
-use Rattle.nr_joined.specs.Run.{Run, end_of}
+use Rattle.nr_joined.specs.Run.{Run, end_of, IsOrderly}
 use Rattle.nr_touch.specs.Releases.{IsReachable, IsWrongRelease}
 use Rattle.nr_touch.specs.Touches.{touch_behind, IsAnsweredInTime, IsRightTouch}
-use Rattle.nr_touch.specs.declared.release.Release.{Release}
-use Rattle.nr_touch.specs.declared.touch.Touch.{Touch}
+use Rattle.nr_touch.specs.declared.releases.release.Release.{Release}
+use Rattle.nr_touch.specs.declared.touches.touch.Touch.{Touch}
 use Rattle.nr_audit.specs.Releases.{HasRightReleases}
 use Rattle.nr_audit.specs.Segments.{run_after}
 use Rattle.nr_audit.specs.Touches.{HasRightTouches}
@@ -89,14 +93,22 @@ module _ (start : Space) (first next : Segment) (more : List Segment) (right : I
   one_more : (event : ℕ) → event < length first.trace.events → event < length (both first next).trace.events
   one_more event low = let long = events_of_both first.trace next.trace in omega (arith, low, long)
 
+  orderly : IsOrderly first.trace
+  orderly = record {
+    earlier = earlier_calls first.trace right.events;
+    own = λ place call is. of_log start first next behind.0 right call
+        (subst (In call) (take-length first.trace.log)
+        (in_taken first.trace.log place (length first.trace.log) call (slice_get_within first.trace.log place call is) is));
+  }
+
   right_with_more : (touch : Touch) → touch.made < length first.trace.events → IsRightTouch start first.trace touch
       → IsRightTouch start (both first next).trace touch
   right_with_more touch low is =
-      right_front start first.trace next.trace behind.0 (of_log start first next behind.0 right) (earlier_calls first.trace right.events) touch low is
+      right_front start first.trace next.trace behind.0 orderly touch low is
 
   in_time_before : (touch : Touch) → touch.answered < length first.trace.events → IsAnsweredInTime start (both first next).trace touch
       → IsAnsweredInTime start first.trace touch
-  in_time_before touch low is = in_time_back start first.trace next.trace behind.0 (of_log start first next behind.0 right) touch low is
+  in_time_before touch low is = in_time_back start first.trace next.trace behind.0 orderly touch low is
 
 right_on : (start : Space) (first : Segment) (more : List Segment) → IsRightFrom start first
     → AreRightFrom (space_behind start first) first.trace.layout more → (touch : Touch) → touch.made < length first.trace.events

@@ -8,8 +8,8 @@ use Rattle.nr_trace.specs.Recording.{Recording}
 use Rattle.nr_trace.specs.Calls.{IsWellFormedHistory}
 use Rattle.nr_touch.specs.Releases.{IsWrongRelease}
 use Rattle.nr_touch.specs.Touches.{touch_behind, IsRightTouch}
-use Rattle.nr_touch.specs.declared.release.Release.{Release}
-use Rattle.nr_touch.specs.declared.touch.Touch.{Touch}
+use Rattle.nr_touch.specs.declared.releases.release.Release.{Release}
+use Rattle.nr_touch.specs.declared.touches.touch.Touch.{Touch}
 use Rattle.nr_audit.specs.Releases.{HasRelease}
 use Rattle.nr_audit.specs.Touches.{HasTouch}
 use Rattle.nr_chain.specs.Bytes.{SpellsChain}

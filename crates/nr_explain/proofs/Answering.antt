@@ -1,20 +1,23 @@
 -- The replies to the updates of the log, and to a touch.
-use Rattle.std.proofs.Common.{◌≡◌, ◌↔◌, ℕ, ◌<◌, ◌≤◌, ◌⊎◌, min, inl, inr, Bool, true, false, Option, Some, None, length, get_or, slice_get, refl, sym}
+use Rattle.std.proofs.Common.{◌≡◌, ◌↔◌, ℕ, ◌<◌, ◌≤◌, ◌⊎◌, ◌^◌, min, inl, inr, Bool, true, false, List, Option, Some, None, length, get_or, slice_get, refl, sym}
 use Rattle.std.proofs.Common.{ap, subst, ◌∙◌, arith}
 use Rattle.std.specs.Prelude.{IsTrue, IsSome, nat_lt, option_and_then, if◌then◌else◌}
 use Rattle.std.proofs.lemmas.Bool.{cases_lt, cases_order}
 use Rattle.std.proofs.lemmas.Bool.Decides.{nat_tests}
-use Rattle.std.proofs.lemmas.Option.{same_Some, slice_get-get_or}
+use Rattle.std.proofs.lemmas.Option.{same_Some, slice_get-get_or, slice_get_within}
 use Rattle.vs_types.specs.declared.access.Access as accesses
 use Rattle.vs_types.specs.declared.access.Mode.{Mode}
 use Rattle.vs_types.specs.declared.request.Query.{Query}
 use Rattle.vs_types.specs.declared.request.Query.TheVariants.{Access}
 use Rattle.nr_trace.specs.Recording.{Recording}
-use Rattle.nr_trace.specs.Calls.{Answers, Invocation, IsCall, call_of, touch_of}
+use Rattle.nr_trace.specs.Calls.{Answers, Invocation, IsCall, call_of, made_by, touch_of}
+use Rattle.nr_trace.specs.declared.event.Event.{Event}
 use Rattle.nr_trace.specs.Laws.{HasCleanLog}
 use Rattle.nr_trace.proofs.LawsOfCalls.{answers_from, reply_that_answers}
 use Rattle.nr_touch.specs.Touches.{IsAnsweredBefore, IsMadeAfter}
-use Rattle.nr_touch.specs.declared.touch.Touch.{Touch}
+use Rattle.nr_touch.specs.declared.touches.touch.Touch.{Touch}
+use Rattle.nr_touch.specs.inside.Changes.{AreReplies}
+use Rattle.nr_touch.proofs.Replayed.{replied}
 use Rattle.nr_audit.specs.Touches.{HasTouch}
 use Rattle.nr_audit.proofs.TouchLists.{touch_answers}
 use Rattle.nr_explain.specs.Facts.{IsCallOf, IsFirstReplyTo, IsReplyOf, asked_address, response}
@@ -28,23 +31,27 @@ there segment place call within is = slice_get-get_or segment.log place 0 within
 pub answers_of : (segment : Recording) (call : ℕ) (reply : RecordedReply) → IsReplyOf segment reply → reply.call ≡ call → Answers segment reply.event call
 answers_of segment call reply is names = answers_from segment reply.event call (response reply) is names
 
--- no reply, or one that comes later
-pub never : (segment : Recording) (place call event : ℕ) → slice_get segment.log place ≡ Some call → ((index : ℕ) → Answers segment index call → ⊥)
-    → IsAnsweredBefore segment place event → ⊥
-never segment place call event is none h =
-    none h.2.0 (subst (Answers segment h.2.0) (same_Some h.0 call (sym h.1 ∙ is)) h.2.2)
+-- a call that is answered before an event, by the first replies to calls
+pub answered_so : (segment : Recording) (replies : List ℕ) (place call event : ℕ) → slice_get segment.log place ≡ Some call
+    → AreReplies segment replies (length segment.events) → call < length replies → event < 2 ^ 32
+    → (get_or replies call 0 < event) ↔ IsAnsweredBefore segment place event
+answered_so segment replies place call event is are within fits = (there_so, back) where
+  told : (get_or replies call 0 < event) ↔ ((reply : ℕ) × (reply < event) × Answers segment reply call)
+  told = replied segment replies call are within event fits
 
-pub before_event : (segment : Recording) (place call event : ℕ) (reply : RecordedReply) → slice_get segment.log place ≡ Some call
-    → IsFirstReplyTo segment call (Some reply) → reply.event < event → IsAnsweredBefore segment place event
-before_event segment place call event reply is first low = (call, is, (reply.event, low, answers_of segment call reply first.0 first.1))
+  there_so : get_or replies call 0 < event → IsAnsweredBefore segment place event
+  there_so low = (call, is, told.0 low)
 
-pub not_before_event : (segment : Recording) (place call event : ℕ) (reply : RecordedReply) → slice_get segment.log place ≡ Some call
-    → IsFirstReplyTo segment call (Some reply) → IsAnsweredBefore segment place event → reply.event < event
-not_before_event segment place call event reply is first h = elim (cases_lt reply.event event) [
-  | inl low ↦ low
-  | inr high ↦ (let low = h.2.1 in
-      absurd (first.2 h.2.0 (omega arith) (subst (Answers segment h.2.0) (same_Some h.0 call (sym h.1 ∙ is)) h.2.2)))
-]
+  back : IsAnsweredBefore segment place event → get_or replies call 0 < event
+  back (own, placed, answered) =
+      told.1 (subst (λ (c : ℕ). (reply : ℕ) × (reply < event) × Answers segment reply c) (same_Some own call (sym placed ∙ is)) answered)
+
+-- a call is one of the events
+pub call_within : (segment : Recording) (call : ℕ) → IsCall segment call → call < length segment.events
+call_within segment call is = of (slice_get segment.events call) refl is where
+  of : (o : Option Event) → slice_get segment.events call ≡ o → IsSome (option_and_then made_by o) → call < length segment.events
+  of None none some = absurd (let wrong : false ≡ true = some in cc)
+  of (Some event) got some = slice_get_within segment.events call event got
 
 -- a call is answered once
 pub one_answer : (segment : Recording) (first second call : ℕ) → HasCleanLog segment → Answers segment first call → Answers segment second call

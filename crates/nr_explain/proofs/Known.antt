@@ -1,5 +1,5 @@
 -- What is kept of a run, beside the run.
-use Rattle.std.proofs.Common.{◌≡◌, ◌↔◌, ℕ, true, false, List, length, Option, Some, None, Contains, is_some, refl, ap, subst}
+use Rattle.std.proofs.Common.{◌≡◌, ◌↔◌, ℕ, Bool, true, false, List, length, Option, Some, None, Contains, is_some, refl, ap, subst}
 use Rattle.vs_types.specs.Space.{Space, pages}
 use Rattle.vs_types.specs.declared.answer.Answer.{Answer}
 use Rattle.nr_trace.specs.Recording.{Recording}
@@ -9,7 +9,8 @@ use Rattle.nr_touch.specs.Tails.{GoesOn}
 use Rattle.nr_audit.specs.Start.{first_space}
 use Rattle.nr_explain.specs.Facts.{asked_address}
 use Rattle.nr_explain.specs.Progress.{ChainState, Seen, began_with, counts_of, layout_in, run_in, space_in, sums_in, IsSeen, IsSeenOf}
-use Rattle.nr_explain.specs.ChainEvidence.{AreEarlier, IsReachBehind, IsShown, LingersAs, LingersBehind, ShowsEarlier}
+use Rattle.nr_explain.specs.ChainFacts.{is_mapped}
+use Rattle.nr_explain.specs.ChainEvidence.{found_page, AreEarlier, IsReachBehind, IsShown, LingersAs, LingersBehind, ShowsEarlier}
 use Rattle.nr_explain.specs.ChainExplanation.{IsShownBehind}
 use Rattle.nr_explain.specs.inside.Firsts.{AreEarlierLeft, IsLeftAs, ShowsLeft, ShowsReachLeft}
 use Rattle.nr_explain.specs.inside.Reading.{began_seen, counts_seen, layout_seen, left_seen, space_seen, sums_seen, IsShownSeen}
@@ -78,14 +79,14 @@ looks_alike (Some came) (Some seen) address look is = (there, back) where
 looks_alike None (Some seen) address look is = absurd is
 looks_alike (Some came) None address look is = absurd is
 
-earlier_of : (came : Option ChainState) (seen : Option Seen) (address first : ℕ) (looks : List Answer) → IsSeenOf came seen
-    → AreEarlierLeft (left_seen seen) address first looks → AreEarlier (run_in came) address first looks
-earlier_of came seen address first looks is are look = (there, back) where
-  there : Contains looks look → (first ≡ 0) × LingersBehind (run_in came) address look
-  there has = let (none, left) = (are look).0 has in (none, (looks_alike came seen address look is).0 left)
+earlier_of : (came : Option ChainState) (seen : Option Seen) (address first : ℕ) (with_page : Bool) (looks : List Answer) → IsSeenOf came seen
+    → AreEarlierLeft (left_seen seen) address first with_page looks → AreEarlier (run_in came) address first with_page looks
+earlier_of came seen address first with_page looks is are look = (there, back) where
+  there : Contains looks look → (first ≡ 0) × (is_mapped look ≡ with_page) × LingersBehind (run_in came) address look
+  there has = let (none, kind, left) = (are look).0 has in (none, kind, (looks_alike came seen address look is).0 left)
 
-  back : (first ≡ 0) × LingersBehind (run_in came) address look → Contains looks look
-  back (none, lingers) = (are look).1 (none, (looks_alike came seen address look is).1 lingers)
+  back : (first ≡ 0) × (is_mapped look ≡ with_page) × LingersBehind (run_in came) address look → Contains looks look
+  back (none, kind, lingers) = (are look).1 (none, kind, (looks_alike came seen address look is).1 lingers)
 
 leading_alike : (came : Option ChainState) (seen : Option Seen) (address : ℕ) (look : Answer) (leading : Leading) → IsSeenOf came seen
     → IsLeftAs (left_seen seen) address look leading → LingersAs (run_in came) address look leading
@@ -102,7 +103,7 @@ reach_alike came seen start segment call (Reached reply reach) is goes_on left =
 earlier_alike : (came : Option ChainState) (seen : Option Seen) (start : Space) (segment : Recording) (shown : SegmentEvidence) → IsSeenOf came seen
     → GoesOn (run_in came) segment start → ShowsLeft seen start segment shown → ShowsEarlier (run_in came) start segment shown
 earlier_alike came seen start segment (evidence.Stale stale) is goes_on left =
-    earlier_of came seen (asked_address stale.call.request) stale.first stale.earlier.items is left
+    earlier_of came seen (asked_address stale.call.request) stale.first (found_page stale.lag) stale.earlier.items is left
 earlier_alike came seen start segment (evidence.Reachable wrong) is goes_on left = reach_alike came seen start segment wrong.call wrong.why is goes_on left
 earlier_alike came seen start segment shown is goes_on left = tt
 

@@ -1,20 +1,22 @@
 -- The moments from which a touch may be answered by a table that lags.
-use Rattle.std.proofs.Common.{◌≡◌, ◌↔◌, ℕ, ◌≤◌, inl, inr, length, Option, Some, None, sym, ap, subst, ◌∙◌, arith}
+use Rattle.std.proofs.Common.{◌≡◌, ◌↔◌, ℕ, ◌≤◌, inl, inr, Bool, true, false, not, length, Option, Some, None, is_some, refl, sym, ap, subst, ◌∙◌, arith}
 use Rattle.std.specs.Prelude.{IfSome}
 use Rattle.std.specs.Option.{option_map_or}
+use Rattle.std.proofs.lemmas.Bool.{false≢true}
 use Rattle.std.proofs.lemmas.Option.{slice_get_within}
 use Rattle.vs_types.specs.Space.{Space}
 use Rattle.vs_types.specs.declared.answer.Answer.{Answer}
 use Rattle.nr_trace.specs.Recording.{Recording}
 use Rattle.nr_trace.specs.Calls.{Invocation}
 use Rattle.nr_touch.specs.Touches.{page_after, ChangesLook, IsLagging, IsMadeAfter}
-use Rattle.nr_touch.specs.declared.touch.Touch.{Touch}
+use Rattle.nr_touch.specs.declared.touches.touch.Touch.{Touch}
 use Rattle.nr_audit.specs.Touches.{known_at, known_when, HasTouch}
+use Rattle.nr_explain.specs.ChainEvidence.{found_page}
 use Rattle.nr_explain.specs.ChainFacts.{IsLagOf}
 use Rattle.nr_explain.specs.Facts.{IsCallOf}
-use Rattle.nr_explain.specs.inside.Windows.{IsWindowBelow}
+use Rattle.nr_explain.specs.inside.Windows.{IsWindowOf}
 use Rattle.nr_explain.specs.declared.chain.evidence.Lag.{Lag}
-use Rattle.nr_explain.specs.declared.chain.touches.Window.{Window}
+use Rattle.nr_explain.specs.declared.chain.windows.Window.{Window}
 use Rattle.nr_explain.specs.declared.trace.evidence.RecordedCall.{RecordedCall}
 
 -- how many entries the replica of a recorded call was known to have applied
@@ -29,8 +31,15 @@ pub record IsAskedSo (segment : Recording) (of_it : ℕ) (call : RecordedCall) (
   pub answered : touch.answered ≡ by
   pub known : touch.known ≡ known_when segment touch.made
 
-module _ (start : Space) (segment : Recording) (address answered : ℕ) (call : RecordedCall) (window : Window) (is_call : IsCallOf segment call)
-    (is : IsWindowBelow start segment address call.event answered (length segment.log) window) where
+-- whether a touch found a page
+pub found_so : (lag : Option Lag) (found : Bool) → is_some lag ≡ not found → found ≡ found_page lag
+found_so None true e = refl
+found_so None false e = absurd (false≢true e)
+found_so (Some lag) true e = absurd (false≢true (sym e))
+found_so (Some lag) false e = refl
+
+module _ (start : Space) (segment : Recording) (address answered : ℕ) (call : RecordedCall) (with_page : Bool) (window : Window)
+    (is_call : IsCallOf segment call) (is : IsWindowOf start segment address call.event answered with_page window) where
   lag_is : (touch : Touch) (lag : Lag) → IsAskedSo segment address call answered touch → lag.known ≡ known_at segment call.replica call.event → (m : ℕ)
       → IsLagging start segment touch m ↔ ((lag.known ≤ m) × (m ≤ window.last) × (page_after start segment touch.address m ≡ None))
   lag_is touch lag asked told m = (there, back) where

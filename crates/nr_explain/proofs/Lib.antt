@@ -1,7 +1,7 @@
 pub mod Reaching
 pub mod LeadingMoments
 pub mod Lags
-pub mod KeptRights
+pub mod TakenLooks
 pub mod KnownAt
 pub mod Ways
 pub mod FirstFaults

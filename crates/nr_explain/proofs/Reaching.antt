@@ -21,40 +21,44 @@ use Rattle.nr_trace.specs.Laws.{HasCleanLog}
 use Rattle.nr_trace.specs.Orders.{space_from}
 use Rattle.nr_joined.specs.Joined.{joined_traces}
 use Rattle.nr_joined.specs.Run.{end_of}
-use Rattle.nr_joined.proofs.Orderly.{own_calls}
 use Rattle.nr_touch.specs.Looks.{IsLookLeft}
 use Rattle.nr_touch.specs.Releases.{IsReachable, IsReachedFrom}
 use Rattle.nr_touch.specs.Tails.{GoesOn, IsTailOf, Lingers}
-use Rattle.nr_touch.specs.Touches.{touch_behind, ChangesLook, IsAllowedPrefix, IsAnsweredBefore, IsAnsweredInTime, IsRightTouch}
-use Rattle.nr_touch.specs.declared.release.Release as releases
-use Rattle.nr_touch.specs.declared.tail.Left.{Left}
-use Rattle.nr_touch.specs.declared.tail.Tail.{Tail}
-use Rattle.nr_touch.specs.declared.touch.Touch.{Touch}
-use Rattle.nr_touch.proofs.Behind.{in_time_parts}
+use Rattle.nr_touch.specs.Touches.{page_after, touch_behind, EndsLook, IsAllowedPrefix, IsAnsweredBefore, IsAnsweredInTime, IsRightTouch}
+use Rattle.nr_touch.specs.declared.releases.release.Release as releases
+use Rattle.nr_touch.specs.declared.touches.tail.Left.{Left}
+use Rattle.nr_touch.specs.declared.touches.tail.Tail.{Tail}
+use Rattle.nr_touch.specs.declared.touches.touch.Touch.{Touch}
+use Rattle.nr_touch.proofs.cuts.Behind.{in_time_parts}
 use Rattle.nr_audit.specs.Releases.{HasRelease, IsDoneOrOpen}
 use Rattle.nr_audit.proofs.ReleasesBehind.{found_in_time}
 use Rattle.nr_explain.specs.ChainEvidence.{release_at, IsReach, IsWrongSo}
-use Rattle.nr_explain.specs.ChainFacts.{IsIn, LeadsInto}
+use Rattle.nr_explain.specs.ChainFacts.{EndsFinding, IsIn, LeadsInto}
 use Rattle.nr_explain.specs.Facts.{IsFirstReplyTo, released, response}
 use Rattle.nr_explain.specs.Progress.{ChainState, Seen, run_in, IsSeen, IsSeenOf}
 use Rattle.nr_explain.specs.inside.Firsts.{IsLeastSeen, IsReleaseToShow, ShowsReachLeft}
 use Rattle.nr_explain.specs.inside.Reaches.{FindsBefore, FindsReach, FindsWithin, IsReachBefore}
 use Rattle.nr_explain.specs.inside.Reaches.{IsWhyOf, LeadsNowhere, NothingLeads}
 use Rattle.nr_explain.specs.inside.Reading.{left_seen, state_of}
-use Rattle.nr_explain.specs.inside.Windows.{IsWindowBelow}
+use Rattle.nr_explain.specs.inside.Windows.{IsWindowOf}
 use Rattle.nr_explain.specs.declared.chain.evidence.Reach.{Reach}
 use Rattle.nr_explain.specs.declared.chain.progress.Progress.{Progress}
-use Rattle.nr_explain.specs.declared.chain.touches.Window.{Window}
+use Rattle.nr_explain.specs.declared.chain.windows.Window.{Window}
 use Rattle.nr_explain.specs.declared.chain.evidence.WhyWrong.{WhyWrong}
 use Rattle.nr_explain.specs.declared.chain.evidence.WhyWrong.TheVariants.{Otherwise, Reached}
 use Rattle.nr_explain.specs.declared.trace.evidence.Given.{Given}
 use Rattle.nr_explain.specs.declared.trace.evidence.RecordedCall.{RecordedCall}
 use Rattle.nr_explain.specs.declared.trace.evidence.RecordedReply.{RecordedReply}
 use Rattle.nr_explain.proofs.Answering.{one_answer, answers_of}
-use Rattle.nr_explain.proofs.Windows.{window_is}
+use Rattle.nr_explain.proofs.Windows.{ends_kind, window_is}
 use Rattle.nr_trace.proofs.LawsOfCalls.{answers_from}
 
 -- ---- what an access finds
+
+-- an access that is allowed finds a page
+page_found : (a phys : ℕ) (mode : Mode) (access : Access) (page : Option Page) → Allowed phys ≡ allow_in_page a mode access page → IsSome page
+page_found a phys mode access None e = absurd (cc)
+page_found a phys mode access (Some own) e = refl
 
 -- a page in which an access finds the memory leads into it
 finds_into : (given : Given) (a phys : ℕ) (mode : Mode) (access : Access) (page : Option Page) → IsIn given phys
@@ -73,7 +77,8 @@ module _ (changes : List Left) (start : Space) (segment : Recording) (event : �
   in_time : (touch : Touch) (phys : ℕ) → touch.address ≡ address → touch.made ≡ event → touch.answered ≡ event → touch.answer ≡ Allowed phys
       → IsIn given phys → IsAnsweredInTime start segment touch → ⊥
   in_time touch phys at made answered finds within (n, allowed, told) =
-      let both = (window_is start segment address event event touch nowhere.window at made answered nowhere.is n).0 allowed in
+      let page = page_found touch.address phys touch.mode touch.access (page_after start segment touch.address n) (sym finds ∙ told) in
+      let both = (window_is start segment address event event true touch nowhere.window at made answered nowhere.is n page).0 allowed in
       let low = both.0 in
       let high = both.1 in
       nowhere.within n low (omega (arith, high))
@@ -85,32 +90,35 @@ module _ (changes : List Left) (start : Space) (segment : Recording) (event : �
   of_segment touch phys at made answered finds within right =
       in_time touch phys at made answered finds within (found_in_time start segment touch phys finds right)
 
-  -- no change was flushed, so the window begins with the segment
-  none_flushed : (touch : Touch) → touch.address ≡ address → touch.made ≡ event
-      → ((place : ℕ) → ChangesLook start segment touch.address place → IsAnsweredBefore segment place touch.made → ⊥) → nowhere.window.first ≡ 0
-  none_flushed touch at made none = elim nowhere.is.reached [
+  -- nothing that was taken away was flushed, so the window begins with the segment
+  none_flushed : (touch : Touch) (page : Option Page) → IsSome page → touch.address ≡ address → touch.made ≡ event
+      → ((place : ℕ) → EndsLook start segment touch.address page place → IsAnsweredBefore segment place touch.made → ⊥) → nowhere.window.first ≡ 0
+  none_flushed touch page some at made none = elim nowhere.is.reached [
     | inl zero_so ↦ zero_so
-    | inr place ↦ absurd (none place.0 (subst (λ (a : ℕ). ChangesLook start segment a place.0) (sym at) place.3.0)
+    | inr place ↦ absurd (none place.0
+        ((ends_kind start segment touch.address true page place.0 some).1
+        (subst (λ (a : ℕ). EndsFinding start segment a true place.0) (sym at) place.3.0))
         (subst (IsAnsweredBefore segment place.0) (sym made) place.3.1))
   ]
 
   behind_run : (came : ChainState) (seen : Seen) → IsSeen came seen → start ≡ end_of came.run → segment.layout ≡ came.run.trace.layout
       → changes ≡ seen.tail.changes.items → IsReachedFrom (Some came.run) start segment (release_at event given) address → ⊥
   behind_run came seen kept ends layout same reached =
-      by_part (in_time_parts came.run.start came.run.trace segment layout (own_calls came.run.trace kept.tail.orderly) kept.tail.orderly.earlier
-      kept.tail.orderly.own reached.touch (found_in_time came.run.start (joined_traces came.run.trace segment)
+      by_part (in_time_parts came.run.start came.run.trace segment layout kept.tail.orderly reached.touch (found_in_time came.run.start (joined_traces came.run.trace segment)
       (touch_behind (length came.run.trace.events) (length came.run.trace.log) reached.touch) reached.phys reached.finds reached.right)) where
         by_part : IsAnsweredInTime (end_of came.run) segment reached.touch
-            ⊎ (((place : ℕ) → ChangesLook (end_of came.run) segment reached.touch.address place → IsAnsweredBefore segment place reached.touch.made → ⊥)
-            × (page : Option Page) × Lingers came.run.start came.run.trace reached.touch.address page
+            ⊎ ((page : Option Page)
+            × ((place : ℕ) → EndsLook (end_of came.run) segment reached.touch.address page place → IsAnsweredBefore segment place reached.touch.made → ⊥)
+            × Lingers came.run.start came.run.trace reached.touch.address page
             × (reached.touch.answer ≡ allow_in_page reached.touch.address reached.touch.mode reached.touch.access page)) → ⊥
         by_part (inl own) =
             in_time reached.touch reached.phys reached.of_it reached.made reached.answered reached.finds reached.within
             (subst (λ (s : Space). IsAnsweredInTime s segment reached.touch) (sym ends) own)
-        by_part (inr (none, page, lingers, told)) =
+        by_part (inr (page, none, lingers, told)) =
+            let some = page_found reached.touch.address reached.phys reached.touch.mode reached.touch.access page (sym reached.finds ∙ told) in
             nowhere.earlier
-            (none_flushed reached.touch reached.of_it reached.made
-            (subst (λ (s : Space). (place : ℕ) → ChangesLook s segment reached.touch.address place → IsAnsweredBefore segment place reached.touch.made → ⊥)
+            (none_flushed reached.touch page some reached.of_it reached.made
+            (subst (λ (s : Space). (place : ℕ) → EndsLook s segment reached.touch.address page place → IsAnsweredBefore segment place reached.touch.made → ⊥)
             (sym ends) none))
             (look_in_page address page)
             (subst (λ (cs : List Left). IsLookLeft cs address (look_in_page address page)) (sym same)
@@ -129,10 +137,10 @@ module _ (changes : List Left) (start : Space) (segment : Recording) (event : �
 -- ---- what is found from an address
 
 module _ (changes : List Left) (start : Space) (segment : Recording) (event : ℕ) (given : Given) (address : ℕ) (window : Window)
-    (is : IsWindowBelow start segment address event event (length segment.log) window) where
+    (is : IsWindowOf start segment address event event true window) where
   allowed_so : (touch : Touch) → touch.address ≡ address → touch.made ≡ event → touch.answered ≡ event → (n : ℕ)
-      → IsAllowedPrefix start segment touch n ↔ ((window.first ≤ n) × (n ≤ window.last))
-  allowed_so touch at made answered n = window_is start segment address event event touch window at made answered is n
+      → IsSome (page_after start segment touch.address n) → IsAllowedPrefix start segment touch n ↔ ((window.first ≤ n) × (n ≤ window.last))
+  allowed_so touch at made answered n page = window_is start segment address event event true touch window at made answered is n page
 
   pub reach_within : (found : Reach) → FindsWithin start segment address window given (Some found)
       → FindsReach changes start segment event given address (Some found)

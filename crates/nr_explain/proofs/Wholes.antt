@@ -77,7 +77,7 @@ pub fits_before : (last : Option Progress) (segment : Recording) (before : Optio
 fits_before None segment None twice fits = tt
 fits_before (Some came) segment (Some past) twice fits = record {
   space = subst (λ (s : BoundedSpace). FitsLayout segment.layout s) (sym twice.space) fits.space;
-  tail = subst AreSound (sym twice.left) fits.tail;
+  tail = twice.sound;
 }
 fits_before None segment (Some past) twice fits = absurd twice
 fits_before (Some came) segment None twice fits = absurd twice
@@ -205,5 +205,5 @@ pub fits_after : (next : Progress) (past : Past) (segment : Recording) → FitsP
 fits_after next past segment fits layout space tail = record {
   space = subst (λ (l : Layout). FitsLayout l next.space) (sym layout)
       (subst (λ (s : BoundedSpace). FitsLayout segment.layout s) (sym space) fits.space);
-  tail = subst AreSound (sym tail.left) fits.tail;
+  tail = subst AreSound (sym tail.left) fits.tail.0;
 }

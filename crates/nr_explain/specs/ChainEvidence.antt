@@ -1,5 +1,6 @@
 -- What each kind of evidence says of a segment: which fault it shows, and its facts, each one of the segment, or of the space before it.
-use Rattle.std.specs.Prelude.{◌≡◌, ◌≢◌, ◌↔◌, ℕ, ◌+◌, ◌<◌, ◌≤◌, ◌⊎◌, min, List, All, AllPairs, Contains, Option, None, Some, IfSome, ⊤, slice_get, true}
+use Rattle.std.specs.Prelude.{◌≡◌, ◌≢◌, ◌↔◌, ℕ, ◌+◌, ◌<◌, ◌≤◌, ◌⊎◌, min, List, All, AllPairs, Contains, Bool, true, Option, None, Some, is_none, is_some}
+use Rattle.std.specs.Prelude.{slice_get, IfSome, IsSome, ⊤}
 use Rattle.vs_types.specs.Depth.{levels, IsCanonical}
 use Rattle.vs_types.specs.Page.{bytes_of}
 use Rattle.vs_types.specs.Space.{Space}
@@ -22,12 +23,12 @@ use Rattle.nr_joined.specs.Run.{Run}
 use Rattle.nr_touch.specs.Releases.{IsLeastReached}
 use Rattle.nr_touch.specs.Tails.{Lingers}
 use Rattle.nr_touch.specs.Touches.{page_after, ChangesLook, IsAllowedPrefix, IsLagging}
-use Rattle.nr_touch.specs.declared.release.Release.{Release}
-use Rattle.nr_touch.specs.declared.touch.Touch.{Touch}
+use Rattle.nr_touch.specs.declared.releases.release.Release.{Release}
+use Rattle.nr_touch.specs.declared.touches.touch.Touch.{Touch}
 use Rattle.nr_audit.specs.Touches.{HasTouch}
 use Rattle.nr_explain.specs.Evidence.{IsDifferenceFrom, IsEvidence, IsMissingTable, IsOtherAnswerFrom, IsReservedEntry, IsSharedTable}
 use Rattle.nr_explain.specs.Facts.{IsCallOf, IsFirstReplyTo, IsReplyOf, asked_address, entries_read, looks_from}
-use Rattle.nr_explain.specs.ChainFacts.{IsChangedAt, IsKeptOf, IsLagOf, IsOrigin, IsTakenFrom, LeadsInto}
+use Rattle.nr_explain.specs.ChainFacts.{is_mapped, EndsFinding, IsChangedAt, IsLagOf, IsOpenEnd, IsOrigin, IsTakenFrom, LeadsInto}
 use Rattle.nr_explain.specs.declared.trace.evidence.Owner.TheVariants as owners
 use Rattle.nr_explain.specs.declared.chain.evidence.Lag.{Lag}
 use Rattle.nr_explain.specs.declared.chain.evidence.Leading.{Leading}
@@ -35,12 +36,15 @@ use Rattle.nr_explain.specs.declared.chain.evidence.Leading.TheVariants.{Within,
 use Rattle.nr_explain.specs.Nearest.{IsNearest}
 use Rattle.nr_explain.specs.declared.chain.evidence.MissedUpdate.{MissedUpdate}
 use Rattle.nr_explain.specs.declared.chain.evidence.Moment.{Moment}
+use Rattle.nr_explain.specs.declared.chain.evidence.OpenUpdate.{OpenUpdate}
 use Rattle.nr_explain.specs.declared.chain.evidence.Reach.{Reach}
 use Rattle.nr_explain.specs.declared.chain.evidence.WhyWrong.{WhyWrong}
 use Rattle.nr_explain.specs.declared.chain.evidence.WhyWrong.TheVariants.{Otherwise, Reached}
 use Rattle.nr_explain.specs.declared.chain.evidence.WrongRelease.{WrongRelease}
 use Rattle.nr_explain.specs.declared.trace.evidence.Given.{Given}
+use Rattle.nr_explain.specs.declared.trace.evidence.PlacedUpdate.{PlacedUpdate}
 use Rattle.nr_explain.specs.declared.trace.evidence.RecordedCall.{RecordedCall}
+use Rattle.nr_explain.specs.declared.trace.nearby.Stretch.{Stretch}
 use Rattle.nr_explain.specs.declared.chain.evidence.StaleTouch.{StaleTouch}
 use Rattle.nr_explain.specs.declared.chain.evidence.StartBeyond.{StartBeyond}
 use Rattle.nr_explain.specs.declared.chain.evidence.StartDiffers.{StartDiffers}
@@ -89,38 +93,65 @@ abbrev pub IsLagWindow : Space → Recording → StaleTouch → Lag → Type 0
 IsLagWindow start segment stale lag = (touch : Touch) → HasTouch segment touch → touch.made ≡ stale.call.event → (n : ℕ)
     → IsLagging start segment touch n ↔ ((lag.known ≤ n) × (n ≤ stale.last) × (page_after start segment touch.address n ≡ None))
 
--- the update is the last entry of the first ones, this many: it changes how the address looks, and is answered before an event; or there are none
-abbrev pub IsMissed : Space → Recording → ℕ → ℕ → ℕ → Option MissedUpdate → Type 0
-IsMissed start segment address made first None = first ≡ 0
-IsMissed start segment address made first (Some missed) =
-    (missed.update.place + 1 ≡ first) × (slice_get segment.log missed.update.place ≡ Some missed.update.call.event) × IsCallOf segment missed.update.call
-    × IsFirstReplyTo segment missed.update.call.event (Some missed.reply) × (missed.reply.event < made) × ChangesLook start segment address missed.update.place
+-- whether a touch found a page: where it found none, it is said how far the table of its replica may lag
+abbrev pub found_page : Option Lag → Bool
+found_page lag = is_none lag
 
--- the touch is answered so, and may be answered from just these moments of its segment, in which its address looked so; where it finds no page, by a
--- table that lags too; which update it should have seen, and after which numbers of entries it would be right; and of a fault of a page, which update
--- took away what may be kept
+-- the update is the last entry of the first ones, this many: it ends what a touch of the address found, and is answered before an event; or there are
+-- none
+abbrev pub IsMissed : Space → Recording → ℕ → ℕ → Bool → ℕ → Option MissedUpdate → Type 0
+IsMissed start segment address made with_page first None = first ≡ 0
+IsMissed start segment address made with_page first (Some missed) =
+    (missed.update.place + 1 ≡ first) × (slice_get segment.log missed.update.place ≡ Some missed.update.call.event) × IsCallOf segment missed.update.call
+    × IsFirstReplyTo segment missed.update.call.event (Some missed.reply) × (missed.reply.event < made)
+    × EndsFinding start segment address with_page missed.update.place
+
+-- the update is the first of the places below an end that ends what a touch of the address found, and isn't answered before an event; and how it is
+-- answered first. Or there is none
+abbrev pub IsOpenBefore : Space → Recording → ℕ → ℕ → Bool → ℕ → Option OpenUpdate → Type 0
+IsOpenBefore start segment address made with_page end None =
+    (place : ℕ) → place < end → IsOpenEnd start segment address made with_page place → ⊥
+IsOpenBefore start segment address made with_page end (Some found) =
+    (found.update.place < end) × (slice_get segment.log found.update.place ≡ Some found.update.call.event) × IsCallOf segment found.update.call
+    × IsFirstReplyTo segment found.update.call.event found.reply × IsOpenEnd start segment address made with_page found.update.place
+    × ((place : ℕ) → place < found.update.place → IsOpenEnd start segment address made with_page place → ⊥)
+
+-- the update comes behind so many entries: it changes how the address looks, and is made after an event. It is named where an answer is right after
+-- more entries
+abbrev pub IsLater : Space → Recording → ℕ → ℕ → ℕ → Option Stretch → Option PlacedUpdate → Type 0
+IsLater start segment address answered last behind None = behind ≡ None
+IsLater start segment address answered last behind (Some update) =
+    IsSome behind × (update.place ≡ last) × (slice_get segment.log last ≡ Some update.call.event) × IsCallOf segment update.call
+    × (answered < update.call.event) × ChangesLook start segment address last
+
+-- the touch is answered so, and may be answered from just these moments of its segment, of those in which its address has a page or none, as the touch
+-- found it; where it found none, by a table that lags too. Which update it should have seen, which was open then, which was made later, and after which
+-- numbers of entries it would be right
 pub record IsStaleTouch (start : Space) (segment : Recording) (stale : StaleTouch) : Type 0 where
   pub call : IsCallOf segment stale.call
   pub reply : IsReplyOf segment stale.reply
   pub names : stale.reply.call ≡ stale.call.event
   pub window : (touch : Touch) → HasTouch segment touch → touch.made ≡ stale.call.event → (n : ℕ)
+      → is_some (page_after start segment touch.address n) ≡ found_page stale.lag
       → IsAllowedPrefix start segment touch n ↔ ((stale.first ≤ n) × (n ≤ stale.last))
   pub lag : IsLagOf segment stale.call stale.reply.answer stale.lag
   pub lagging : IfSome stale.lag (IsLagWindow start segment stale)
   pub looks : AreLooks start segment (asked_address stale.call.request) (fewest stale.first stale.lag) stale.last stale.looks.items
-  pub missed : IsMissed start segment (asked_address stale.call.request) stale.call.event stale.first stale.missed
+  pub missed : IsMissed start segment (asked_address stale.call.request) stale.call.event (found_page stale.lag) stale.first stale.missed
+  pub open_then : IsOpenBefore start segment (asked_address stale.call.request) stale.call.event (found_page stale.lag) stale.first stale.still_open
+  pub later : IsLater start segment (asked_address stale.call.request) stale.reply.event stale.last stale.right.behind stale.later
   pub right : IsNearest start segment stale.call.request stale.reply.answer stale.first stale.last stale.right
-  pub kept : IsKeptOf start segment stale.call stale.reply.answer stale.first stale.right.before stale.kept
 
 -- an address lingers to look so behind a run
 abbrev pub LingersBehind : Option Run → ℕ → Answer → Type 0
 LingersBehind None address seen = ⊥
 LingersBehind (Some run) address seen = (page : Option Page) × Lingers run.start run.trace address page × (seen ≡ look_in_page address page)
 
--- a touch that may be answered from no entry of its segment may be answered too as its address lingers to look behind the segments before: in just these
--- looks; and else in no earlier one
-abbrev pub AreEarlier : Option Run → ℕ → ℕ → List Answer → Type 0
-AreEarlier before address first looks = (seen : Answer) → Contains looks seen ↔ ((first ≡ 0) × LingersBehind before address seen)
+-- a touch that found a page, or none, and may be answered from no entry of its segment may be answered too as its address lingers to look behind the
+-- segments before: in just these looks, in which it has a page, or none; and else in no earlier one
+abbrev pub AreEarlier : Option Run → ℕ → ℕ → Bool → List Answer → Type 0
+AreEarlier before address first with_page looks =
+    (seen : Answer) → Contains looks seen ↔ ((first ≡ 0) × (is_mapped seen ≡ with_page) × LingersBehind before address seen)
 
 -- ---- releases
 
@@ -134,10 +165,11 @@ IsLeading start segment given reach (Within entries taken) =
 IsLeading start segment given reach Earlier =
     (reach.first ≡ 0) × ((n : ℕ) → n ≤ reach.last → LeadsInto given (looks_from start segment reach.address n) → ⊥)
 
--- an access of the address that is made and answered at the event may be answered from just these moments, and so looks the address at one of them:
--- it leads into the memory
+-- an access of the address that is made and answered at the event may be answered from just these moments, of those in which the address has a page, and
+-- so it looks at one of them: it leads into the memory
 pub record IsReach (start : Space) (segment : Recording) (event : ℕ) (given : Given) (reach : Reach) : Type 0 where
   pub window : (touch : Touch) → touch.address ≡ reach.address → touch.made ≡ event → touch.answered ≡ event → (n : ℕ)
+      → IsSome (page_after start segment touch.address n)
       → IsAllowedPrefix start segment touch n ↔ ((reach.first ≤ n) × (n ≤ reach.last))
   pub leads : LeadsInto given reach.look
   pub leading : IsLeading start segment given reach reach.leading
@@ -175,7 +207,7 @@ IsReachBehind before start segment call (Reached reply reach) =
 -- what shows a stale touch has the earlier looks too, and what shows a release such a look, and the least address
 abbrev pub ShowsEarlier : Option Run → Space → Recording → SegmentEvidence → Type 0
 ShowsEarlier before start segment (evidence.Stale stale) =
-    AreEarlier before (asked_address stale.call.request) stale.first stale.earlier.items
+    AreEarlier before (asked_address stale.call.request) stale.first (found_page stale.lag) stale.earlier.items
 ShowsEarlier before start segment (evidence.Reachable wrong) = IsReachBehind before start segment wrong.call wrong.why
 ShowsEarlier before start segment shown = ⊤
 

@@ -1,5 +1,5 @@
 -- Facts of a segment that evidence is made of, from the space on with which it begins.
-use Rattle.std.specs.Prelude.{◌≡◌, ◌≢◌, ℕ, ◌+◌, ◌-◌, ◌<◌, ◌≤◌, false, true, length, slice_get, Option, Some, None}
+use Rattle.std.specs.Prelude.{◌≡◌, ◌≢◌, ℕ, ◌+◌, ◌-◌, ◌<◌, ◌≤◌, Bool, false, true, length, slice_get, Option, Some, None}
 use Rattle.vs_types.specs.Access.{fault_code}
 use Rattle.vs_types.specs.Page.{bytes_of}
 use Rattle.vs_types.specs.Space.{Space, no_pages}
@@ -9,16 +9,14 @@ use Rattle.vs_types.specs.declared.answer.Answer.TheVariants as answers
 use Rattle.vs_types.specs.declared.request.Query.{Query}
 use Rattle.vs_types.specs.declared.request.Query.TheVariants.{Access}
 use Rattle.nr_trace.specs.Recording.{Recording}
-use Rattle.nr_touch.specs.Touches.{page_after, ChangesLook, IsWidened, OnlyWidens}
+use Rattle.nr_touch.specs.Touches.{ChangesLook, IsAnsweredBefore, TakesAway}
 use Rattle.nr_audit.specs.Touches.{known_at, known_to}
-use Rattle.nr_explain.specs.Facts.{asked_address, looks_from, response, IsCallOf, IsFirstReplyTo, IsReplyOf}
-use Rattle.nr_explain.specs.declared.chain.evidence.Kept.{Kept}
+use Rattle.nr_explain.specs.Facts.{looks_from, response, IsCallOf, IsFirstReplyTo, IsReplyOf}
 use Rattle.nr_explain.specs.declared.chain.evidence.Lag.{Lag}
-use Rattle.nr_explain.specs.declared.chain.evidence.TakenAway.{TakenAway}
+use Rattle.nr_explain.specs.declared.chain.evidence.OpenUpdate.{OpenUpdate}
 use Rattle.nr_explain.specs.declared.trace.evidence.Given.{Given}
 use Rattle.nr_explain.specs.declared.trace.evidence.RecordedCall.{RecordedCall}
 use Rattle.nr_explain.specs.declared.trace.evidence.RecordedReply.{RecordedReply}
-use Rattle.nr_explain.specs.declared.trace.nearby.Stretch.{Stretch}
 use Rattle.nr_explain.specs.declared.chain.evidence.Origin.{Origin}
 use Rattle.nr_explain.specs.declared.chain.evidence.Origin.TheVariants.{Nothing, Start, Earlier}
 
@@ -60,36 +58,22 @@ IsLagOf segment call answer (Some lag) =
     IsFaultOfNoPage call.request answer × (lag.known ≡ known_at segment call.replica call.event)
     × IsShownBy segment call.replica call.event lag.known lag.shown
 
--- ---- rights that were kept
+-- ---- what ends that an address is found so
 
--- the answer is the page fault of an access whose page doesn't allow it
-abbrev pub IsFaultOfPage : Query → Answer → Type 0
-IsFaultOfPage (Access address mode access) answer = answer ≡ answers.Fault (fault_code true mode access)
-IsFaultOfPage request answer = ⊥
+-- whether a page covers an address that looks so
+abbrev pub is_mapped : Answer → Bool
+is_mapped (answers.Mapped phys size rights) = true
+is_mapped look = false
 
--- from one number of entries to another rights alone are added to the page of the address; or this update is the first that does more, with the first
--- reply to it
-abbrev pub IsTakenBack : Space → Recording → ℕ → ℕ → ℕ → Option TakenAway → Type 0
-IsTakenBack start segment address from end None = OnlyWidens start segment address from end
-IsTakenBack start segment address from end (Some taken) =
-    (from ≤ taken.update.place) × (taken.update.place < end) × IsCallOf segment taken.update.call
-    × (slice_get segment.log taken.update.place ≡ Some taken.update.call.event)
-    × OnlyWidens start segment address from taken.update.place
-    × ChangesLook start segment address taken.update.place
-    × (IsWidened (page_after start segment address taken.update.place) (page_after start segment address (taken.update.place + 1)) → ⊥)
-    × IsFirstReplyTo segment taken.update.call.event taken.reply
+-- the update of a place ends that an address is found with a page, as it takes away from it; or without one, as it changes how it looks
+abbrev pub EndsFinding : Space → Recording → ℕ → Bool → ℕ → Type 0
+EndsFinding start segment address true place = TakesAway start segment address place
+EndsFinding start segment address false place = ChangesLook start segment address place
 
--- so it is from the last of some numbers of entries on, or there are none
-abbrev pub IsTakenSince : Space → Recording → ℕ → Option Stretch → ℕ → Option TakenAway → Type 0
-IsTakenSince start segment address None end taken = taken ≡ None
-IsTakenSince start segment address (Some stretch) end taken = IsTakenBack start segment address stretch.last end taken
-
--- what ended that a touch faults by rights that were kept, where it found a page that doesn't allow it: it may be answered after the fewest entries or
--- more, and below these the space gave its answer after such ones
-abbrev pub IsKeptOf : Space → Recording → RecordedCall → Answer → ℕ → Option Stretch → Option Kept → Type 0
-IsKeptOf start segment call answer fewest below None = IsFaultOfPage call.request answer → ⊥
-IsKeptOf start segment call answer fewest below (Some kept) =
-    IsFaultOfPage call.request answer × IsTakenSince start segment (asked_address call.request) below fewest kept.taken
+-- it does so, and isn't answered before an event
+abbrev pub IsOpenEnd : Space → Recording → ℕ → ℕ → Bool → ℕ → Type 0
+IsOpenEnd start segment address made with_page place =
+    EndsFinding start segment address with_page place × (IsAnsweredBefore segment place made → ⊥)
 
 -- ---- memory that is given away
 
@@ -104,7 +88,7 @@ LeadsInto given look = ⊥
 
 -- from a number of entries on the address leads into the memory after each number of them up to a place, and no longer behind that; and how the
 -- update of the place is answered first. Or it leads there up to the end of the log
-abbrev pub IsTakenFrom : Space → Recording → ℕ → Given → ℕ → Option TakenAway → Type 0
+abbrev pub IsTakenFrom : Space → Recording → ℕ → Given → ℕ → Option OpenUpdate → Type 0
 IsTakenFrom start segment address given entries None =
     (n : ℕ) → entries ≤ n → n ≤ length segment.log → LeadsInto given (looks_from start segment address n)
 IsTakenFrom start segment address given entries (Some taken) =

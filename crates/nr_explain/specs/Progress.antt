@@ -11,7 +11,7 @@ use Rattle.nr_trace.specs.declared.event.Event.TheVariants.{Call, Release, Reply
 use Rattle.nr_joined.specs.Run.{Run, end_of}
 use Rattle.nr_touch.specs.Beside.{beside}
 use Rattle.nr_touch.specs.Tails.{IsTailOfRun}
-use Rattle.nr_touch.specs.declared.tail.Tail.{Tail}
+use Rattle.nr_touch.specs.declared.touches.tail.Tail.{Tail}
 use Rattle.nr_audit.specs.Segments.{run_after}
 use Rattle.nr_audit.specs.Start.{first_space, space_before, start_space}
 use Rattle.nr_chain.specs.Bytes.{layout_before}

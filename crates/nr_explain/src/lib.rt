@@ -14,8 +14,8 @@ mod units;
 
 pub use calls::answers::{address_about, asked_address};
 pub use chain::evidence::{
-    BadSegment, Kept, Lag, Leading, MissedUpdate, Moment, Origin, Reach, SegmentEvidence,
-    StaleTouch, StartBeyond, StartDiffers, TakenAway, WhyWrong, WrongRelease,
+    BadSegment, Lag, Leading, MissedUpdate, Moment, OpenUpdate, Origin, Reach, SegmentEvidence,
+    StaleTouch, StartBeyond, StartDiffers, WhyWrong, WrongRelease,
 };
 pub use chain::explanation::{ChainCounts, ChainExplanation};
 pub use chain::reader::{ChainReader, ReaderStep};

@@ -7,7 +7,7 @@ use Rattle.vs_types.specs.declared.page.Size.TheVariants.{K4, M2, G1}
 use Rattle.nr_touch.specs.Releases.{HasPhys}
 use Rattle.nr_touch.specs.inside.Changes.{number_at}
 use Rattle.nr_touch.specs.inside.Blocks.{whole, IsBlockFor, IsBlockOf}
-use Rattle.nr_touch.specs.declared.release.Release.{Release}
+use Rattle.nr_touch.specs.declared.releases.release.Release.{Release}
 use Rattle.nr_touch.proofs.Sizes.{own_number}
 
 -- two stretches at multiples of their sizes that share a number: the smaller one lies in the greater one

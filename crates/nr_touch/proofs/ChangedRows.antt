@@ -1,41 +1,40 @@
 -- The rows of a block, from the last one back: which of them lead to the memory of a release.
-use Rattle.std.proofs.Common.{◌≡◌, ℕ, ◌+◌, ◌*◌, ◌<◌, ◌≤◌, inl, inr, List, Contains, get_or, length, slice_get, Option, Some, sym, ap, ◌∙◌, subst, arith}
+use Rattle.std.proofs.Common.{◌≡◌, ℕ, ◌+◌, ◌*◌, ◌<◌, ◌≤◌, inl, inr, List, Contains, get_or, length, slice_get, Some, sym, ap, ◌∙◌, subst, arith}
 use Rattle.std.proofs.lemmas.Bool.{cases_lt}
 use Rattle.vs_types.specs.Space.{Space}
 use Rattle.vs_types.specs.Page.{bytes_of}
 use Rattle.vs_types.specs.declared.page.Page.{Page}
 use Rattle.vs_types.specs.declared.page.Size.{Size}
 use Rattle.nr_trace.specs.Recording.{Recording}
-use Rattle.nr_joined.specs.Run.{Run}
 use Rattle.nr_touch.specs.Releases.{HasPhys}
 use Rattle.nr_touch.specs.inside.Blocks.{IsBlockOf}
 use Rattle.nr_touch.specs.inside.Bounds.{IsBoundary}
 use Rattle.nr_touch.specs.inside.Lives.{AreLives, HaveRows}
-use Rattle.nr_touch.specs.inside.Reached.{probe_at, LeadsThere}
-use Rattle.nr_touch.specs.inside.Stays.{AreStretches, IsSamePlace}
-use Rattle.nr_touch.specs.inside.Tables.{IsRightByTablesBehind}
-use Rattle.nr_touch.specs.declared.lives.Lives.{Lives}
-use Rattle.nr_touch.specs.declared.release.Release.{Release}
-use Rattle.nr_touch.specs.declared.stays.Stay.{Stay}
+use Rattle.nr_touch.specs.inside.Reached.{FindsPage, IsSamePlace, LeadsSo}
+use Rattle.nr_touch.specs.inside.Stays.{AreStretches}
+use Rattle.nr_touch.specs.declared.changes.change.PlacedChange.{PlacedChange}
+use Rattle.nr_touch.specs.declared.releases.lives.Lives.{Lives}
+use Rattle.nr_touch.specs.declared.releases.release.Release.{Release}
+use Rattle.nr_touch.specs.declared.releases.stays.Stay.{Stay}
 use Rattle.nr_touch.proofs.Found.{far_page}
 use Rattle.nr_touch.proofs.Lefts.{in_got}
 
 -- no row of the block from an index on whose stay has the event of the release leads to its memory
-abbrev pub NoneLeadsFrom : Option Run → Space → Recording → Release → List Stay → Lives → ℕ → ℕ → Type 0
-NoneLeadsFrom before start segment release stays lives block end = (k : ℕ) (stay : Stay) → end ≤ k → k < length lives.blocks.items
+abbrev pub NoneLeadsFrom : Space → Recording → List PlacedChange → Release → List Stay → Lives → ℕ → ℕ → Type 0
+NoneLeadsFrom start segment earlier release stays lives block end = (k : ℕ) (stay : Stay) → end ≤ k → k < length lives.blocks.items
     → get_or lives.blocks.items k 0 ≡ block → get_or lives.from.items k 0 ≤ release.made → slice_get stays (get_or lives.rows.items k 0) ≡ Some stay
-    → release.made ≤ stay.until → LeadsThere before start segment release stay.page → ⊥
+    → release.made ≤ stay.until → LeadsSo start segment earlier release stay.page → ⊥
 
-module _ (before : Option Run) (start : Space) (segment : Recording) (release : Release) (stays : List Stay) (lives : Lives) (block : ℕ) where
+module _ (start : Space) (segment : Recording) (earlier : List PlacedChange) (release : Release) (stays : List Stay) (lives : Lives) (block : ℕ) where
   -- those behind the boundary begin later
   pub none_begun : (end : ℕ) → IsBoundary lives.blocks.items lives.from.items block (release.made + 1) end
-      → NoneLeadsFrom before start segment release stays lives block end
+      → NoneLeadsFrom start segment earlier release stays lives block end
   none_begun end found k stay past less own from at until leads = let late = found.reached k past less own in omega (arith, late, from)
 
   pub one_more : (last end : ℕ) → end ≡ last + 1
       → ((stay : Stay) → slice_get stays (get_or lives.rows.items last 0) ≡ Some stay → release.made ≤ stay.until
-      → LeadsThere before start segment release stay.page → ⊥)
-      → NoneLeadsFrom before start segment release stays lives block end → NoneLeadsFrom before start segment release stays lives block last
+      → LeadsSo start segment earlier release stay.page → ⊥)
+      → NoneLeadsFrom start segment earlier release stays lives block end → NoneLeadsFrom start segment earlier release stays lives block last
   one_more last end next not none k stay past less own from at until leads = elim (cases_lt last k) [
     | inl behind ↦ none k stay (omega (arith, next, behind)) less own from at until leads
     | inr here ↦
@@ -46,8 +45,8 @@ module _ (before : Option Run) (start : Space) (segment : Recording) (release : 
   -- the stays of a stretch are over behind its last event
   pub stretch_more : (since until : List ℕ) → AreStretches stays lives.rows.items since until (length lives.rows.items)
       → (last end : ℕ) → end ≡ last + 1 → last < length lives.rows.items → get_or until last 0 < release.made
-      → NoneLeadsFrom before start segment release stays lives block end
-      → NoneLeadsFrom before start segment release stays lives block (get_or since last 0)
+      → NoneLeadsFrom start segment earlier release stays lives block end
+      → NoneLeadsFrom start segment earlier release stays lives block (get_or since last 0)
   stretch_more since until are last end next within over none k stay past less own from at is_there leads = elim (cases_lt last k) [
     | inl behind ↦ none k stay (omega (arith, next, behind)) less own from at is_there leads
     | inr here ↦ let ends = are.over last k within past here stay at in omega (arith, ends, over, is_there)
@@ -55,8 +54,8 @@ module _ (before : Option Run) (start : Space) (segment : Recording) (release : 
 
   -- no stay leads there, where no row from an index on does, and none before it has the block
   pub none_of_block : HaveRows stays lives → (end : ℕ) → ((k : ℕ) → k < end → get_or lives.blocks.items k 0 ≡ block → ⊥)
-      → NoneLeadsFrom before start segment release stays lives block end → (stay : Stay) → Contains stays stay → IsBlockOf stay.page block
-      → stay.from ≤ release.made → release.made ≤ stay.until → LeadsThere before start segment release stay.page → ⊥
+      → NoneLeadsFrom start segment earlier release stays lives block end → (stay : Stay) → Contains stays stay → IsBlockOf stay.page block
+      → stay.from ≤ release.made → release.made ≤ stay.until → LeadsSo start segment earlier release stay.page → ⊥
   none_of_block have end early none stay has of first last leads =
       let (row, at) = in_got stays stay has in
       let (k, less, own, from, until, is) = have stay row block release.made at of first last in
@@ -65,20 +64,18 @@ module _ (before : Option Run) (start : Space) (segment : Recording) (release : 
         | inr past ↦ none k stay past less own from (ap (slice_get stays) is ∙ at) last leads
       ]
 
--- what leads there does so as a page of the same place
-pub same_place : (before : Option Run) (start : Space) (segment : Recording) (release : Release) (page other : Page) → IsSamePlace page other
-    → LeadsThere before start segment release other → LeadsThere before start segment release page
-same_place before start segment release page other same leads =
+-- what leads there so does as a page of the same place
+pub same_place : (start : Space) (segment : Recording) (earlier : List PlacedChange) (release : Release) (page other : Page) → IsSamePlace page other
+    → LeadsSo start segment earlier release other → LeadsSo start segment earlier release page
+same_place start segment earlier release page other same leads =
     let offset = leads.frame * 4096 in
     record {
       frame = leads.frame;
       within = subst (λ (size : Size). offset < bytes_of size) (sym same.size) leads.within;
-      met = record {
-        has = subst (λ (phys : ℕ). HasPhys release (phys + offset)) (sym same.phys) leads.met.has;
-        right = subst (λ (base : ℕ). IsRightByTablesBehind before start segment (probe_at release.made (base + offset) (page.phys + offset))) (sym same.base)
-            (subst (λ (phys : ℕ). IsRightByTablesBehind before start segment (probe_at release.made (other.base + offset) (phys + offset))) (sym same.phys)
-            leads.met.right);
-      };
+      has = subst (λ (phys : ℕ). HasPhys release (phys + offset)) (sym same.phys) leads.has;
+      own = leads.own;
+      same = record { base = same.base ∙ leads.same.base; size = same.size ∙ leads.same.size; phys = same.phys ∙ leads.same.phys };
+      finds = subst (λ (base : ℕ). FindsPage start segment earlier release.made leads.own (base + offset)) (sym same.base) leads.finds;
     }
 
 -- a row of another block: those before it are of others too

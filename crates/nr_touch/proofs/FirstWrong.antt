@@ -7,30 +7,31 @@ use Rattle.vs_types.specs.Space.{Space}
 use Rattle.nr_trace.specs.Recording.{Recording}
 use Rattle.nr_joined.specs.Run.{Run}
 use Rattle.nr_touch.specs.Releases.{FindsReachable, IsWrongRelease, NoneWrongBelow}
-use Rattle.nr_touch.specs.inside.Reached.{LeadsThere, SomeLeadsThere}
-use Rattle.nr_touch.specs.declared.release.Release.{Release}
-use Rattle.nr_touch.specs.declared.seen.Seen.{Seen}
+use Rattle.nr_touch.specs.inside.Reached.{LeadsSo, SomeLeadsSo}
+use Rattle.nr_touch.specs.declared.changes.change.PlacedChange.{PlacedChange}
+use Rattle.nr_touch.specs.declared.releases.release.Release.{Release}
+use Rattle.nr_touch.specs.declared.releases.seen.Seen.{Seen}
 use Rattle.nr_touch.proofs.Lefts.{in_got}
 
 -- ---- pages
 
 -- no page of these below an index leads there
-abbrev pub NoneLeadsBelow : Option Run → Space → Recording → Release → List Seen → ℕ → Type 0
-NoneLeadsBelow before start segment release seen end = (k : ℕ) (s : Seen) → k < end → slice_get seen k ≡ Some s
-    → LeadsThere before start segment release s.page → ⊥
+abbrev pub NoneLeadsBelow : Space → Recording → List PlacedChange → Release → List Seen → ℕ → Type 0
+NoneLeadsBelow start segment earlier release seen end = (k : ℕ) (s : Seen) → k < end → slice_get seen k ≡ Some s
+    → LeadsSo start segment earlier release s.page → ⊥
 
-module _ (before : Option Run) (start : Space) (segment : Recording) (release : Release) (seen : List Seen) where
-  pub none_leads : (index : ℕ) (d : Seen) → index < length seen → (LeadsThere before start segment release (get_or seen index d).page → ⊥)
-      → NoneLeadsBelow before start segment release seen index → NoneLeadsBelow before start segment release seen (index + 1)
+module _ (start : Space) (segment : Recording) (earlier : List PlacedChange) (release : Release) (seen : List Seen) where
+  pub none_leads : (index : ℕ) (d : Seen) → index < length seen → (LeadsSo start segment earlier release (get_or seen index d).page → ⊥)
+      → NoneLeadsBelow start segment earlier release seen index → NoneLeadsBelow start segment earlier release seen (index + 1)
   none_leads index d l not none k s low at leads = elim (cases_lt k index) [
     | inl earlier ↦ none k s earlier at leads
     | inr past ↦
         let same : k ≡ index = omega (arith, low, past) in
         let one : get_or seen index d ≡ s = same_Some (get_or seen index d) s (sym (slice_get-get_or seen index d l) ∙ ap (slice_get seen) (sym same) ∙ at) in
-        not (subst (λ (q : Seen). LeadsThere before start segment release q.page) (sym one) leads)
+        not (subst (λ (q : Seen). LeadsSo start segment earlier release q.page) (sym one) leads)
   ]
 
-  pub nothing_leads : (end : ℕ) → length seen ≤ end → NoneLeadsBelow before start segment release seen end → SomeLeadsThere before start segment release seen → ⊥
+  pub nothing_leads : (end : ℕ) → length seen ≤ end → NoneLeadsBelow start segment earlier release seen end → SomeLeadsSo start segment earlier release seen → ⊥
   nothing_leads end all none (s, has, leads) =
       let (k, at) = in_got seen s has in
       let l = slice_get_within seen k s at in

@@ -20,8 +20,8 @@ use Rattle.vs_types.specs.declared.page.Page.{Page}
 use Rattle.vs_types.specs.declared.page.Size.TheVariants.{K4, M2, G1}
 use Rattle.nr_touch.specs.inside.Blocks.{blocks_at, IsBlockOf}
 use Rattle.nr_touch.specs.inside.Indexed.{row_cmp, IsIndexed}
-use Rattle.nr_touch.specs.declared.index.Index.{Index}
-use Rattle.nr_touch.proofs.Lefts.{here_in, later_in, in_cons, in_none}
+use Rattle.nr_touch.specs.declared.releases.index.Index.{Index}
+use Rattle.vs_types.proofs.Lists.{Contains-cases, Contains-head, Contains-tail, not_in_nil}
 
 -- ---- the order of rows
 
@@ -105,26 +105,38 @@ in_more : {X : Type 0} (p : X → Bool) (y : X) (ys : List X) (x : X) → p x �
 in_more p y ys x t later (inl same) =
     let passes : p y ≡ true = ap p same ∙ t in
     subst (λ (b : Bool). Contains (cond b (y ∷ filter p ys) (filter p ys)) x) (sym passes)
-    (subst (Contains (y ∷ filter p ys)) same (here_in y (filter p ys)))
+    (subst (Contains (y ∷ filter p ys)) same (Contains-head y (filter p ys)))
 in_more p y ys x t later (inr has) = by (p y) where
   by : (b : Bool) → Contains (cond b (y ∷ filter p ys) (filter p ys)) x
-  by true = later_in y x (filter p ys) (later has)
+  by true = Contains-tail y (filter p ys) x (later has)
   by false = later has
 
 in_filter : {X : Type 0} (p : X → Bool) (xs : List X) (x : X) → Contains xs x → p x ≡ true → Contains (filter p xs) x
-in_filter p [] x has t = absurd (in_none x has)
-in_filter p (y ∷ ys) x has t = in_more p y ys x t (λ later. in_filter p ys x later t) (in_cons y x ys has)
+in_filter p [] x has t = absurd (not_in_nil x has)
+in_filter p (y ∷ ys) x has t = in_more p y ys x t (λ later. in_filter p ys x later t) (Contains-cases y ys x has)
+
+-- a key is found between two bounds
+pub key_found : {K : Type 0} {R : K → K → Ordering} → IsTotalOrder R → CmpEqualImpliesEq R → (keys : BTreeSet K) (found : List K) (least greatest key : K)
+    → found ≡ keys_between R (Included least) (Included greatest) keys → is_gt (R least key) ≡ false → is_gt (R key greatest) ≡ false
+    → IsTrue (contains R keys key) → Contains found key
+key_found {K} {R} order exact keys found least greatest key is from upto has =
+    subst (λ (xs : List K). Contains xs key) (sym is)
+    (in_filter (range_contains R (Included least) (Included greatest)) keys.keys key ((btree_set_contains_iff order exact keys key).0 has)
+    (range_contains-from_IsInRange order (Included least) (Included greatest) key (from, upto)))
+
+no_greater_by : (o : Ordering) (a b : ℕ) → MatchOrdering o (a < b) (a ≡ b) (b < a) → a ≤ b → is_gt o ≡ false
+no_greater_by Less a b m l = refl
+no_greater_by Equal a b m l = refl
+no_greater_by Greater a b m l = absurd (omega (arith, m, l))
+
+pub no_greater : (a b : ℕ) → a ≤ b → is_gt (nat_cmp a b) ≡ false
+no_greater a b l = no_greater_by (nat_cmp a b) a b (ranked a b (nat_cmp a b) refl) l
 
 -- a row is found between the least row of its block and the greatest
 pub row_found : (rows : BTreeSet (ℕ × ℕ)) (found : List (ℕ × ℕ)) (least greatest : ℕ × ℕ) (block base end : ℕ) → least ≡ (block, 0) → greatest ≡ (block, end)
     → found ≡ keys_between row_cmp (Included least) (Included greatest) rows → base ≤ end → IsTrue (contains row_cmp rows (block, base))
     → Contains found (block, base)
 row_found rows found least greatest block base end low high is fits has =
-    let from : is_gt (row_cmp least (block, base)) ≡ false =
-    subst (λ (row : ℕ × ℕ). is_gt (row_cmp row (block, base)) ≡ false) (sym low) (at_most block 0 base (omega arith)) in
-    let upto : is_gt (row_cmp (block, base) greatest) ≡ false =
-    subst (λ (row : ℕ × ℕ). is_gt (row_cmp (block, base) row) ≡ false) (sym high) (at_most block base end fits) in
-    subst (λ (xs : List (ℕ × ℕ)). Contains xs (block, base)) (sym is)
-    (in_filter (range_contains row_cmp (Included least) (Included greatest)) rows.keys (block, base)
-    ((btree_set_contains_iff row_order exact_rows rows (block, base)).0 has)
-    (range_contains-from_IsInRange row_order (Included least) (Included greatest) (block, base) (from, upto)))
+    key_found row_order exact_rows rows found least greatest (block, base) is
+    (subst (λ (row : ℕ × ℕ). is_gt (row_cmp row (block, base)) ≡ false) (sym low) (at_most block 0 base (omega arith)))
+    (subst (λ (row : ℕ × ℕ). is_gt (row_cmp (block, base) row) ≡ false) (sym high) (at_most block base end fits)) has

@@ -15,29 +15,29 @@ use Rattle.vs_types.proofs.Spaces.{page_at_means}
 use Rattle.nr_touch.specs.inside.Indexed.{HasOwn}
 use Rattle.nr_touch.specs.inside.Reached.{IsRoomy}
 use Rattle.nr_touch.specs.inside.Undo.{LeadsTo}
-use Rattle.nr_touch.specs.declared.change.Change.{Change}
-use Rattle.nr_touch.specs.declared.change.PlacedChange.{PlacedChange}
-use Rattle.nr_touch.proofs.Lefts.{here_in, later_in, in_cons, in_none}
+use Rattle.nr_touch.specs.declared.changes.change.Change.{Change}
+use Rattle.nr_touch.specs.declared.changes.change.PlacedChange.{PlacedChange}
+use Rattle.vs_types.proofs.Lists.{Contains-cases, Contains-head, Contains-tail, not_in_nil}
 use Rattle.nr_touch.proofs.Replayed.{page_ends}
 
 pub still_there : (depth : Depth) (start : Space) (changes : List Change) (after : Space) → LeadsTo depth start changes after → (page : Page)
     → ((c : Change) → Contains changes c → c.page.base ≡ page.base → ⊥) → Holds after page → Holds start page
 still_there depth start [] after same page none holds = subst (λ (s : Space). Holds s page) (sym same) holds
 still_there depth start (change ∷ changes) after (next, from, rest) page none holds =
-    let then : Holds next page = still_there depth next changes after rest page (λ c has. none c (later_in change c changes has)) holds in
-    let differs : page.base ≢ change.page.base = λ e. none change (here_in change changes) (sym e) in
+    let then : Holds next page = still_there depth next changes after rest page (λ c has. none c (Contains-tail change changes c has)) holds in
+    let differs : page.base ≢ change.page.base = λ e. none change (Contains-head change changes) (sym e) in
     sym (get-remove_other start change.page.base page.base differs)
     ∙ ap (λ (s : Space). finite.get s page.base) (sym from.changed.elsewhere)
     ∙ get-remove_other next change.page.base page.base differs
     ∙ then
 
 pub own_or_not : (changes : List PlacedChange) (page : Page) → HasOwn changes page ⊎ (HasOwn changes page → ⊥)
-own_or_not [] page = inr (λ own. in_none own.0 own.1)
+own_or_not [] page = inr (λ own. not_in_nil own.0 own.1)
 own_or_not (change ∷ changes) page = elim (cases_eq change.change.page.base page.base) [
-  | inl same ↦ inl (change, here_in change changes, same)
+  | inl same ↦ inl (change, Contains-head change changes, same)
   | inr differs ↦ elim (own_or_not changes page) [
-    | inl own ↦ inl (own.0, later_in change own.0 changes own.1, own.2)
-    | inr none ↦ inr (λ own. elim (in_cons change own.0 changes own.1) [
+    | inl own ↦ inl (own.0, Contains-tail change changes own.0 own.1, own.2)
+    | inr none ↦ inr (λ own. elim (Contains-cases change changes own.0 own.1) [
       | inl first ↦ differs (ap (λ (c : PlacedChange). c.change.page.base) first ∙ own.2)
       | inr later ↦ none (own.0, later, own.2)
     ])

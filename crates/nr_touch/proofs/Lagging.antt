@@ -9,8 +9,8 @@ use Rattle.vs_types.specs.declared.answer.Answer.TheVariants.{Allowed, Fault}
 use Rattle.vs_types.specs.declared.page.Page.{Page}
 use Rattle.nr_trace.specs.Recording.{Recording}
 use Rattle.nr_touch.specs.Touches.{IsFaultOfLagging, IsFaultOfNone, page_after}
-use Rattle.nr_touch.specs.declared.change.PlacedChange.{PlacedChange}
-use Rattle.nr_touch.specs.declared.touch.Touch.{Touch}
+use Rattle.nr_touch.specs.declared.changes.change.PlacedChange.{PlacedChange}
+use Rattle.nr_touch.specs.declared.touches.touch.Touch.{Touch}
 use Rattle.nr_touch.specs.inside.Changes.{AreChanges}
 use Rattle.nr_touch.specs.inside.Columns.{Covers, IsAhead}
 use Rattle.nr_touch.specs.inside.Walk.{IsAnsweredWithin}

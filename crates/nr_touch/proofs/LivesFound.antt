@@ -14,9 +14,9 @@ use Rattle.vs_types.specs.declared.page.Size.TheVariants.{K4, M2, G1}
 use Rattle.nr_touch.specs.inside.Bounds.{IsBoundary, IsRaised, IsRising}
 use Rattle.nr_touch.specs.inside.Blocks.{around, IsBlockOf}
 use Rattle.nr_touch.specs.inside.Lives.{lives_at, AreColumnsOf, AreLives, AreRowsOf, HasLife, HasLifeOf, HaveLives, HaveRows, IsMet}
-use Rattle.nr_touch.specs.declared.lives.Life.{Life}
-use Rattle.nr_touch.specs.declared.lives.Lives.{Lives}
-use Rattle.nr_touch.specs.declared.stays.Stay.{Stay}
+use Rattle.nr_touch.specs.declared.releases.lives.Life.{Life}
+use Rattle.nr_touch.specs.declared.releases.lives.Lives.{Lives}
+use Rattle.nr_touch.specs.declared.releases.stays.Stay.{Stay}
 use Rattle.nr_touch.proofs.Found.{element, far_bound, far_page}
 use Rattle.nr_touch.proofs.Spans.{raised_at}
 

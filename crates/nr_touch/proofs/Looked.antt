@@ -16,11 +16,11 @@ use Rattle.vs_types.specs.declared.page.Rights.{Rights}
 use Rattle.vs_types.specs.declared.page.Size.{Size}
 use Rattle.vs_types.specs.declared.page.Size.TheVariants.{K4, M2, G1}
 use Rattle.nr_trace.proofs.LawsOfUnits.{rights_from, rights_back}
-use Rattle.nr_touch.specs.declared.change.Change.{Change}
-use Rattle.nr_touch.specs.declared.change.PlacedChange.{PlacedChange}
-use Rattle.nr_touch.specs.declared.history.History.{History}
-use Rattle.nr_touch.specs.declared.sights.Sight.{Sight}
-use Rattle.nr_touch.specs.declared.touch.Touch.{Touch}
+use Rattle.nr_touch.specs.declared.changes.change.Change.{Change}
+use Rattle.nr_touch.specs.declared.changes.change.PlacedChange.{PlacedChange}
+use Rattle.nr_touch.specs.declared.changes.history.History.{History}
+use Rattle.nr_touch.specs.declared.changes.sights.Sight.{Sight}
+use Rattle.nr_touch.specs.declared.touches.touch.Touch.{Touch}
 use Rattle.nr_touch.specs.inside.Changes.{number_at}
 use Rattle.nr_touch.specs.inside.Columns.{AreColumns, Covers, IsOf}
 use Rattle.nr_touch.specs.inside.Sights.{HasRights, HasSight, IsAnsweredBetween, kind_of, kind_sight_of, sight_of}

@@ -13,9 +13,9 @@ use Rattle.nr_trace.specs.Laws.{HasCleanLog}
 use Rattle.nr_trace.proofs.LawsOfUnits.{size_from, size_back, rights_from, rights_back}
 use Rattle.nr_trace.proofs.LawsOfCalls.{answered_stands, placed_is_update, reply_is_first, reply_that_answers, stands_once}
 use Rattle.nr_trace.proofs.LawsOfPrecedence.{known_below_floor, known_of_update}
-use Rattle.nr_touch.specs.Touches.{page_after, ChangesLook, IsAnsweredBefore, IsMadeAfter, IsAllowedPrefix, IsAnsweredAt, IsAnsweredInTime, IsOfQuietPage}
-use Rattle.nr_touch.specs.Touches.{IsFaultOfKept, IsOfThePresent, IsRightTouch, LagsInNothing, WidensNothing}
-use Rattle.nr_touch.specs.declared.touch.Touch.{Touch}
+use Rattle.nr_touch.specs.Touches.{page_after, ChangesLook, EndsLook, IsAnsweredBefore, IsMadeAfter, IsAllowedPrefix, IsAnsweredAt, IsAnsweredInTime}
+use Rattle.nr_touch.specs.Touches.{IsOfQuietPage, IsOfThePresent, IsRightTouch, KeepsNothing, LagsInNothing}
+use Rattle.nr_touch.specs.declared.touches.touch.Touch.{Touch}
 
 -- ---- pages are one or not
 
@@ -60,13 +60,13 @@ look_or_not _ _ = inr (λ e. cc)
 
 -- ---- looks of a quiet page
 
-module _ (start : Space) (trace : Recording) (touch : Touch) (quiet : IsOfQuietPage start trace touch) where
+module _ (start : Space) (trace : Recording) (touch : Touch) (quiet : IsOfQuietPage start trace touch) (keeps : KeepsNothing start trace touch) where
   -- between two allowed prefixes no place changes how the address looks
   none_between : (m n place : ℕ) → IsAllowedPrefix start trace touch m → IsAllowedPrefix start trace touch n → m ≤ place → place < n
       → ChangesLook start trace touch.address place → ⊥
   none_between m n place first then low high changes = by_side (quiet place changes) where
     by_side : IsAnsweredBefore trace place touch.made ⊎ IsMadeAfter trace place touch.answered → ⊥
-    by_side (inl answered) = let l = first.flushed place changes answered in omega arith
+    by_side (inl answered) = let l = keeps m place first changes answered in omega arith
     by_side (inr made) = let l = then.not_foreseen place changes made in omega arith
 
   up_to : (m n k : ℕ) → IsAllowedPrefix start trace touch m → IsAllowedPrefix start trace touch n → m + k ≤ n
@@ -109,7 +109,7 @@ pub present_is_allowed : (start : Space) (trace : Recording) (touch : Touch) (n 
     → IsAllowedPrefix start trace touch n
 present_is_allowed start trace touch n clean present = record {
   within = present.within;
-  flushed = λ place changes (call, placed, (reply, before, answers)).
+  flushed = λ place ends (call, placed, (reply, before, answers)).
       let low = known_at trace place touch.made call reply clean placed before answers in
       let known = present.known in
       omega arith;
@@ -124,31 +124,25 @@ pub present_is_right : (start : Space) (trace : Recording) (touch : Touch) (n : 
 present_is_right start trace touch n clean present answered = inl (n, present_is_allowed start trace touch n clean present, answered)
 
 pub quiet_answers : (start : Space) (trace : Recording) (touch : Touch) (n : ℕ) → HasCleanLog trace → IsOfQuietPage start trace touch
-    → IsAnsweredInTime start trace touch → IsOfThePresent trace touch n → IsAnsweredAt start trace touch n
-quiet_answers start trace touch n clean quiet right present =
+    → KeepsNothing start trace touch → IsAnsweredInTime start trace touch → IsOfThePresent trace touch n → IsAnsweredAt start trace touch n
+quiet_answers start trace touch n clean quiet keeps right present =
     right.2 ∙ ap (allow_in_page touch.address touch.mode touch.access)
-    (quiet_looks start trace touch quiet right.0 n right.1 (present_is_allowed start trace touch n clean present))
+    (quiet_looks start trace touch quiet keeps right.0 n right.1 (present_is_allowed start trace touch n clean present))
 
--- a right touch whose replica lags in nothing that it needs is answered in time, or by rights that were kept
+-- a right touch whose replica lags in nothing that it needs is answered in time
 pub right_in_time : (start : Space) (trace : Recording) (touch : Touch) → LagsInNothing start trace touch → IsRightTouch start trace touch
-    → IsAnsweredInTime start trace touch ⊎ IsFaultOfKept start trace touch
-right_in_time start trace touch caught (inl in_time) = inl in_time
-right_in_time start trace touch caught (inr (inl kept)) = inr kept
-right_in_time start trace touch caught (inr (inr (fault, m, it))) = inl (
+    → IsAnsweredInTime start trace touch
+right_in_time start trace touch caught (inl in_time) = in_time
+right_in_time start trace touch caught (inr (fault, m, it)) = (
   m,
   record {
     within = it.within;
-    flushed = λ place looks early. let low = caught fault place looks early in let known = it.known in omega (arith, low, known);
+    flushed = λ place ends early.
+        let looks = subst (λ (o : Option Page). EndsLook start trace touch.address o place) it.absent ends in
+        let low = caught fault place looks early in
+        let known = it.known in
+        omega (arith, low, known);
     not_foreseen = it.not_foreseen;
   },
   fault ∙ ap (allow_in_page touch.address touch.mode touch.access) (sym it.absent),
-)
-
--- where no rights were added just before, that is in time too
-pub kept_in_time : (start : Space) (trace : Recording) (touch : Touch) → WidensNothing start trace touch → IsFaultOfKept start trace touch
-    → IsAnsweredInTime start trace touch
-kept_in_time start trace touch none (fault, m, n, it) = (
-  n,
-  it.allowed,
-  it.answered ∙ ap (allow_in_page touch.address touch.mode touch.access) (none m n it.allowed it.before it.widens),
 )

@@ -1,6 +1,6 @@
 -- A release beside the pages that the rows of an index name.
-use Rattle.std.proofs.Common.{◌≡◌, ℕ, ◌+◌, ◌*◌, Bool, false, length, Option, Some, IsTrue, sym, ◌∙◌, subst}
-use Rattle.std.proofs.Common.{◌↔◌, arith}
+use Rattle.std.proofs.Common.{◌≡◌, ℕ, ◌+◌, ◌*◌, Bool, false, List, length, Option, Some, IsTrue, sym, ◌∙◌, subst}
+use Rattle.std.proofs.Common.{arith}
 use Rattle.std.proofs.lemmas.Bool.{false≢true}
 use Rattle.std.proofs.lemmas.Option.{same_Some}
 use Rattle.vs_types.specs.Space.{Space, Holds, IsSpace}
@@ -9,19 +9,21 @@ use Rattle.vs_types.specs.declared.page.Page.{Page}
 use Rattle.nr_trace.specs.Orders.{space_from}
 use Rattle.nr_trace.specs.Recording.{IsMemory, Recording}
 use Rattle.nr_joined.specs.Run.{Run}
-use Rattle.nr_touch.specs.declared.history.History.{History}
-use Rattle.nr_touch.specs.declared.release.Release.{Release}
+use Rattle.nr_touch.specs.inside.Levels.{left_in}
+use Rattle.nr_touch.specs.declared.changes.change.PlacedChange.{PlacedChange}
+use Rattle.nr_touch.specs.declared.changes.history.History.{History}
+use Rattle.nr_touch.specs.declared.releases.release.Release.{Release}
 use Rattle.nr_touch.specs.inside.Blocks.{IsBlockFor, IsBlockOf}
 use Rattle.nr_touch.specs.inside.Earlier.{IsFollowed}
-use Rattle.nr_touch.specs.inside.Reached.{LeadsThere}
+use Rattle.nr_touch.specs.inside.Reached.{LeadsSo}
 use Rattle.nr_touch.proofs.Blocks.{shares_block}
 
-module _ (history earlier : History) (space : Space) (places : ℕ) (release : Release) where
+module _ (history : History) (earlier : List History) (space : Space) (places : ℕ) (release : Release) where
   -- no access that begins with the release could reach its memory through a page that begins at the base
   abbrev pub NoneFrom : ℕ → Type 0
   NoneFrom base = (before : Option Run) (start : Space) (segment : Recording) (page : Page) → IsFollowed before start segment history earlier
       → space ≡ space_from start segment segment.log → places ≡ length segment.log → Holds space page → page.base ≡ base
-      → LeadsThere before start segment release page → ⊥
+      → LeadsSo start segment (left_in earlier) release page → ⊥
 
   module _ (base : ℕ) (found : Option Page) (is : (page : Page) → Holds space page → page.base ≡ base → found ≡ Some page) where
     pub none_begins : ((own : Page) → found ≡ Some own → ⊥) → NoneFrom base
@@ -29,17 +31,17 @@ module _ (history earlier : History) (space : Space) (places : ℕ) (release : R
 
     pub none_leads : (own : Page) (leads : Bool) → found ≡ Some own → leads ≡ false
         → ((before : Option Run) (start : Space) (segment : Recording) → IsFollowed before start segment history earlier
-        → space ≡ space_from start segment segment.log → places ≡ length segment.log → IsTrue leads ↔ LeadsThere before start segment release own)
+        → space ≡ space_from start segment segment.log → places ≡ length segment.log → LeadsSo start segment (left_in earlier) release own → IsTrue leads)
         → NoneFrom base
     none_leads own leads some not says before start segment page followed are many holds begins there =
         let same : page ≡ own = same_Some page own (sym (is page holds begins) ∙ some) in
-        false≢true (sym not ∙ (says before start segment followed are many).1 (subst (LeadsThere before start segment release) same there))
+        false≢true (sym not ∙ says before start segment followed are many (subst (LeadsSo start segment (left_in earlier) release) same there))
 
 -- a page that leads into the memory of a release leads into a block that the release is about
-pub block_met : {depth : Depth} {space : Space} → IsSpace depth space → (before : Option Run) (start : Space) (segment : Recording) (release : Release)
-    (page : Page) → IsMemory release.size release.phys → Holds space page → LeadsThere before start segment release page
+pub block_met : {depth : Depth} {space : Space} → IsSpace depth space → (start : Space) (segment : Recording) (earlier : List PlacedChange)
+    (release : Release) (page : Page) → IsMemory release.size release.phys → Holds space page → LeadsSo start segment earlier release page
     → (block : ℕ) × IsBlockOf page block × IsBlockFor release block
-block_met is before start segment release page memory holds leads =
+block_met is start segment earlier release page memory holds leads =
     let good = is.well_formed page holds in
     let within = leads.within in
-    shares_block page release (page.phys + leads.frame * 4096) good.phys_aligned memory.0 (omega arith) (omega (arith, within)) leads.met.has
+    shares_block page release (page.phys + leads.frame * 4096) good.phys_aligned memory.0 (omega arith) (omega (arith, within)) leads.has

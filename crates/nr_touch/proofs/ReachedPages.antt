@@ -3,6 +3,7 @@ use Rattle.std.proofs.Common.{◌≡◌, ℕ, zero, suc, ◌+◌, ◌*◌, ◌-�
 use Rattle.std.proofs.Common.{Contains, IsTrue, refl, sym, ap, ◌∙◌, subst, arith}
 use Rattle.std.proofs.Math.Seq.{take-length}
 use Rattle.std.proofs.lemmas.Bool.{cases_lt}
+use Rattle.std.proofs.lemmas.Bool.Decides.{nat_tests}
 use Rattle.std.proofs.lemmas.Option.{same_Some}
 use Rattle.vs_types.specs.Access.{allows, fault_code}
 use Rattle.vs_types.specs.Page.{bytes_of, covers}
@@ -22,20 +23,19 @@ use Rattle.nr_trace.specs.Orders.{space_from}
 use Rattle.nr_joined.specs.Run.{Run}
 use Rattle.nr_touch.specs.Releases.{HasPhys, IsReachable}
 use Rattle.nr_touch.specs.Tails.{GoesOn}
-use Rattle.nr_touch.specs.Touches.{page_after, ChangesLook, IsAllowedPrefix, IsAnsweredBefore, IsMadeAfter}
-use Rattle.nr_touch.specs.inside.Tables.{IsFaultOfKeptBehind, IsRightByTables, IsRightByTablesBehind}
-use Rattle.nr_touch.specs.inside.Changes.{number_of, page_before, AreChanges}
+use Rattle.nr_touch.specs.Touches.{page_after, ChangesLook, EndsLook, IsAllowedPrefix, IsAnsweredBefore, IsMadeAfter, IsRightTouch, IsRightBehind, TakesAway}
+use Rattle.nr_touch.specs.inside.Changes.{ended_at, number_of, page_before, taken_at, AreChanges}
 use Rattle.nr_touch.specs.inside.Columns.{Covers, IsNumbered, IsOf}
-use Rattle.nr_touch.specs.inside.Earlier.{AreOfRun, IsAnsweredSo}
-use Rattle.nr_touch.specs.inside.Reached.{probe_at, seen_before, seen_left, seen_now, AreSeen, IsAlive, LeadsBelow, LeadsThere}
-use Rattle.nr_touch.specs.declared.change.PlacedChange.{PlacedChange}
-use Rattle.nr_touch.specs.declared.release.Release.{Release}
-use Rattle.nr_touch.specs.declared.seen.Seen.{Seen}
-use Rattle.nr_touch.specs.declared.touch.Touch.{Touch}
-use Rattle.nr_touch.proofs.Behind.{change_within}
+use Rattle.nr_touch.specs.inside.Alike.{AreAlike}
+use Rattle.nr_touch.specs.inside.Earlier.{AreOfRun, EndsNowhere, IsLeftAt}
+use Rattle.nr_touch.specs.inside.Reached.{probe_at, seen_before, seen_left, seen_now, AreSeen, IsAlive, FindsPage, IsMetAt, IsRoomy, IsSamePlace, LeadsBelow, LeadsSo, LeadsThere}
+use Rattle.nr_touch.specs.declared.changes.change.PlacedChange.{PlacedChange}
+use Rattle.nr_touch.specs.declared.releases.release.Release.{Release}
+use Rattle.nr_touch.specs.declared.releases.seen.Seen.{Seen}
+use Rattle.nr_touch.specs.declared.touches.touch.Touch.{Touch}
 use Rattle.nr_touch.proofs.Blocks.{frame_covered, in_frame, of_frames}
-use Rattle.nr_touch.proofs.Kept.{by_tables, kept_fault, tables_right}
-use Rattle.nr_touch.proofs.Lingering.{left_behind, not_less, own_right, parts_behind, NoneFlushedFrom}
+use Rattle.nr_touch.proofs.cuts.Ended.{change_within, ended_before, ends_changes}
+use Rattle.nr_touch.proofs.cuts.Tails.{own_right, parts_behind}
 use Rattle.nr_touch.proofs.QuietPages.{look_or_not, same_look}
 use Rattle.nr_touch.proofs.Sizes.{covered_numbered, own_number}
 
@@ -100,11 +100,26 @@ was_there c page e = by c.change.was_mapped e where
 
 -- ---- the changes of a segment
 
--- a change has all addresses of a frame, or none
+-- all addresses of a frame have the same changes
 alike_covers : (c : PlacedChange) (a b : ℕ) → IsNumbered c → a / 4096 ≡ b / 4096 → Covers a c → Covers b c
 alike_covers c a b is same covered =
     let at = (covers_means c.change.page a).0 covered in
     (covers_means c.change.page b).1 (frame_covered c.change.page.size c.change.page.base a b is.aligned same at.0 at.1)
+
+frame_alike : (changes : List PlacedChange) → ((c : PlacedChange) → Contains changes c → IsNumbered c) → (a b : ℕ) → a / 4096 ≡ b / 4096
+    → AreAlike changes a b
+frame_alike changes numbered a b same c has = (alike_covers c a b (numbered c has) same, alike_covers c b a (numbered c has) (sym same))
+
+alike_back : (changes : List PlacedChange) (a b : ℕ) → AreAlike changes a b → AreAlike changes b a
+alike_back changes a b alike c has = ((alike c has).1, (alike c has).0)
+
+-- pages of one place have the same addresses
+same_covers : (page other : Page) (a : ℕ) → IsSamePlace page other → IsTrue (covers page a) → IsTrue (covers other a)
+same_covers page other a same covered =
+    let at = (covers_means page a).0 covered in
+    let size : bytes_of page.size ≡ bytes_of other.size = ap bytes_of same.size in
+    let base = same.base in
+    (covers_means other a).1 (omega (arith, at.0, base), omega (arith, at.1, base, size))
 
 -- a change of the page's own has its addresses
 own_covers : (page : Page) (a : ℕ) → page.base % bytes_of page.size ≡ 0 → IsTrue (covers page a) → (c : PlacedChange) → IsNumbered c
@@ -113,18 +128,17 @@ own_covers page a aligned covered c is of =
     let at = (covers_means page a).0 covered in
     covered_numbered c a page.size is (of ∙ own_number page.size page.base a aligned at.0 at.1)
 
--- a page that was seen and was alive, which has the address; and any address of it that lies in the frame of this one looks so too
-record FoundPage (own : List PlacedChange) (seen : List Seen) (event a : ℕ) (page : Page) (Looks : ℕ → Type 0) : Type 0 where
+-- a page that was seen and was alive, which has the address
+record FoundPage (own : List PlacedChange) (seen : List Seen) (event a : ℕ) (page : Page) : Type 0 where
   pub s : Seen
   pub has : Contains seen s
   pub is : s.page ≡ page
   pub covered : IsTrue (covers page a)
   pub alive : IsAlive own s event
-  pub looks : (b : ℕ) → a / 4096 ≡ b / 4096 → IsTrue (covers page b) → Looks b
 
 -- a page that is seen and alive leads there at or below an address, and shares memory with the release
-pub record ReachedPage (before : Option Run) (start : Space) (segment : Recording) (own : List PlacedChange) (seen : List Seen) (release : Release)
-    (address : ℕ) : Type 0 where
+pub record ReachedPage (start : Space) (segment : Recording) (own earlier : List PlacedChange) (seen : List Seen) (release : Release) (address : ℕ)
+    : Type 0 where
   pub s : Seen
   pub has : Contains seen s
   pub alive : IsAlive own s release.made
@@ -132,32 +146,105 @@ pub record ReachedPage (before : Option Run) (start : Space) (segment : Recordin
   pub shared : HasPhys release phys
   pub low : s.page.phys ≤ phys
   pub high : phys < s.page.phys + bytes_of s.page.size
-  pub leads : LeadsBelow before start segment release address s.page
+  pub leads : LeadsBelow start segment earlier release address s.page
+
+module _ (start : Space) (segment : Recording) (own : List PlacedChange) (are : AreChanges start segment own)
+    (space : Space) (depth : Depth) (is_space : IsSpace depth space) (whole : space ≡ space_from start segment segment.log) where
+  pub changes_alike : (a b place : ℕ) → AreAlike own a b → ChangesLook start segment a place → ChangesLook start segment b place
+  changes_alike a b place alike looks =
+      let (c, has, at, covered) = are.all place a (change_within start segment a place looks) looks in
+      subst (ChangesLook start segment b) at ((are.each c has).0.differs b ((alike c has).0 covered))
+
+  pub takes_alike : (a b place : ℕ) → AreAlike own a b → TakesAway start segment a place → TakesAway start segment b place
+  takes_alike a b place alike taken =
+      let looks = ends_changes (Some taken.page) (page_after start segment a place) (page_after start segment a (place + 1)) taken in
+      let (c, has, at, covered) = are.all place a (change_within start segment a place looks) looks in
+      let known = (are.each c has).0 in
+      subst (TakesAway start segment b) at ((known.takes b ((alike c has).0 covered)).0
+      ((known.takes a covered).1 (subst (TakesAway start segment a) (sym at) taken)))
+
+  none_alike : (a b m n : ℕ) → AreAlike own a b → NoneWithin start segment a m n → NoneWithin start segment b m n
+  none_alike a b m n alike none place low high looks = none place low high (changes_alike b a place (alike_back own a b alike) looks)
+
+  at_end : (a : ℕ) → page_after start segment a (length segment.log) ≡ page_at space a
+  at_end a =
+      ap (λ (calls : List ℕ). page_at (space_from start segment calls) a) (take-length segment.log) ∙ ap (λ (s : Space). page_at s a) (sym whole)
+
+  -- an address with the same changes, which the page has, looks so too
+  pub looks_alike : (a b n : ℕ) (page : Page) → AreAlike own a b → IsTrue (covers page b) → n ≤ length segment.log
+      → page_after start segment a n ≡ Some page → page_after start segment b n ≡ Some page
+  looks_alike a b n page alike covers_b low at = by (first_within start segment a n (length segment.log - n)) where
+    it : n + (length segment.log - n) ≡ length segment.log
+    it = omega (arith, low)
+
+    by : NoneWithin start segment a n (n + (length segment.log - n)) ⊎ FirstWithin start segment a n (n + (length segment.log - n))
+        → page_after start segment b n ≡ Some page
+    by (inl none) =
+        let all = subst (λ (e : ℕ). NoneWithin start segment a n e) it none in
+        let here : page_at space a ≡ Some page = sym (at_end a) ∙ sym (same_within start segment a n (length segment.log) low all) ∙ at in
+        same_within start segment b n (length segment.log) low (none_alike a b n (length segment.log) alike all)
+        ∙ at_end b ∙ (page_at_means is_space b page).1 (((page_at_means is_space a page).0 here).0, covers_b)
+    by (inr (p, from, to, looks, none)) =
+        let high : p < length segment.log = omega (arith, to, it) in
+        let (c, has, place, covered) = are.all p a high looks in
+        let known = (are.each c has).0 in
+        same_within start segment b n p from (none_alike a b n p alike none)
+        ∙ ap (page_after start segment b) (sym place)
+        ∙ known.was b ((alike c has).0 covered)
+        ∙ sym (known.was a covered) ∙ ap (page_after start segment a) place
+        ∙ sym (same_within start segment a n p from none) ∙ at
+
+  -- ---- which page is found
+
+  module _ (earlier : List PlacedChange) (event : ℕ) (page : Page) where
+    -- an address of the page with the same changes may be found so too
+    pub alike_finds : (a b : ℕ) → AreAlike own a b → AreAlike earlier a b → IsTrue (covers page b) → FindsPage start segment earlier event page a
+        → FindsPage start segment earlier event page b
+    alike_finds a b alike left_alike covers_b (inl (n, allowed, at)) =
+        let looks = looks_alike a b n page alike covers_b allowed.within at in
+        let back = alike_back own a b alike in
+        inl (
+          n,
+          record {
+            within = allowed.within;
+            flushed = λ place ends before.
+                let taken = takes_alike b a place back (subst (λ (o : Option Page). EndsLook start segment b o place) looks ends) in
+                allowed.flushed place (subst (λ (o : Option Page). EndsLook start segment a o place) (sym at) taken) before;
+            not_foreseen = λ place changes late. allowed.not_foreseen place (changes_alike b a place back changes) late;
+          },
+          looks,
+        )
+    alike_finds a b alike left_alike covers_b (inr (none, it)) = inr (
+      (λ place taken early. none place (takes_alike b a place (alike_back own a b alike) taken) early),
+      record {
+        change = it.change;
+        has = it.has;
+        covers_it = (left_alike it.change it.has).0 it.covers_it;
+        still_open = λ other has_other covers_it early. it.still_open other has_other ((left_alike other has_other).1 covers_it) early;
+        looks = it.looks;
+      },
+    )
+
+    -- a touch that finds it there is right
+    pub finds_right : (before : Option Run) → GoesOn before segment start → AreOfRun before earlier → (b phys : ℕ) → phys ≡ page.phys + (b - page.base)
+        → FindsPage start segment earlier event page b → IsRightBehind before start segment (probe_at event b phys)
+    finds_right before goes_on of_run b phys is (inl (n, allowed, at)) = own_right start segment earlier (probe_at event b phys) before goes_on of_run (inl (
+      n,
+      record { within = allowed.within; flushed = allowed.flushed; not_foreseen = allowed.not_foreseen },
+      ap Allowed is ∙ probed b page ∙ ap (allow_in_page b Supervisor Read) (sym at),
+    ))
+    finds_right before goes_on of_run b phys is (inr (none, it)) =
+        (parts_behind start segment earlier (probe_at event b phys) before goes_on of_run).1 (inr (Some page, none, it, ap Allowed is ∙ probed b page))
 
 module _ (start : Space) (segment : Recording) (own earlier : List PlacedChange) (are : AreChanges start segment own)
     (numbered : (c : PlacedChange) → Contains own c → IsNumbered c) (left_numbered : (c : PlacedChange) → Contains earlier c → IsNumbered c)
     (space : Space) (depth : Depth) (is_space : IsSpace depth space) (whole : space ≡ space_from start segment segment.log)
     (places : ℕ) (many : places ≡ length segment.log) (seen : List Seen) (all : AreSeen own earlier (pages space) places seen) (event : ℕ)
     (fits : event < 2 ^ 32) where
-  changes_alike : (a b place : ℕ) → a / 4096 ≡ b / 4096 → ChangesLook start segment a place → ChangesLook start segment b place
-  changes_alike a b place same looks =
-      let (c, has, at, covered) = are.all place a (change_within start segment a place looks) looks in
-      subst (ChangesLook start segment b) at ((are.each c has).0.differs b (alike_covers c a b (numbered c has) same covered))
-
-  none_alike : (a b m n : ℕ) → a / 4096 ≡ b / 4096 → NoneWithin start segment a m n → NoneWithin start segment b m n
-  none_alike a b m n same none place low high looks = none place low high (changes_alike b a place (sym same) looks)
-
-  at_end : (a : ℕ) → page_after start segment a (length segment.log) ≡ page_at space a
-  at_end a =
-      ap (λ (calls : List ℕ). page_at (space_from start segment calls) a) (take-length segment.log) ∙ ap (λ (s : Space). page_at s a) (sym whole)
-
   -- ---- at a moment of the segment
 
   module _ (touch : Touch) (made : touch.made ≡ event) (answered : touch.answered ≡ event) (n : ℕ) (allowed : IsAllowedPrefix start segment touch n)
       (page : Page) (at : page_after start segment touch.address n ≡ Some page) where
-    abbrev LooksSo : ℕ → Type 0
-    LooksSo b = page_after start segment b n ≡ Some page
-
     -- an update of the page's own before a place, where none of the address lies from the moment to that place
     made_before : (end : ℕ) → NoneWithin start segment touch.address n end → (d : PlacedChange) → Contains own d → Covers touch.address d
         → d.place < end → d.made ≤ event
@@ -170,18 +257,17 @@ module _ (start : Space) (segment : Recording) (own earlier : List PlacedChange)
       | inr low ↦ low
     ]
 
-    answered_from : (end : ℕ) → n ≤ end → (d : PlacedChange) → Contains own d → Covers touch.address d → end ≤ d.place → event ≤ d.answered
-    answered_from end low d has covered past = elim (cases_lt d.answered event) [
+    taken_from : (end : ℕ) → n ≤ end → (d : PlacedChange) → Contains own d → Covers touch.address d → end ≤ d.place → event ≤ taken_at d
+    taken_from end low d has covered past = elim (cases_lt (taken_at d) event) [
       | inl early ↦
-          let known = (are.each d has).0 in
-          let (reply, before, answers) = (known.answered event fits).0 early in
-          let less = allowed.flushed d.place (known.differs touch.address covered)
-          (d.made, known.made, (reply, subst (λ (e : ℕ). reply < e) (sym made) before, answers)) in
+          let (ends, before) = (ended_before start segment touch.address event fits d (Some page) (are.each d has).0 covered).0 early in
+          let less = allowed.flushed d.place (subst (λ (o : Option Page). EndsLook start segment touch.address o d.place) (sym at) ends)
+          (subst (IsAnsweredBefore segment d.place) (sym made) before) in
           absurd (omega (arith, less, low, past))
       | inr fine ↦ fine
     ]
 
-    before_change : FirstWithin start segment touch.address n (length segment.log) → FoundPage own seen event touch.address page LooksSo
+    before_change : FirstWithin start segment touch.address n (length segment.log) → FoundPage own seen event touch.address page
     before_change (p, low, high, looks, none) =
         let (c, has, place, covered) = are.all p touch.address high looks in
         let known = (are.each c has).0 in
@@ -199,20 +285,15 @@ module _ (start : Space) (segment : Recording) (own earlier : List PlacedChange)
           alive = record {
             there = there.0;
             from = λ d has_d of less. made_before p none d has_d (mine d has_d of) (omega (arith, less, place));
-            until = λ d has_d of past. answered_from p low d has_d (mine d has_d of) (omega (arith, past, place));
+            until = λ d has_d of past. taken_from p low d has_d (mine d has_d of) (omega (arith, past, place));
           };
-          looks = λ b frame covers_b.
-              same_within start segment b n p low (none_alike touch.address b n p frame none)
-              ∙ ap (page_after start segment b) (sym place)
-              ∙ known.was b (subst (λ (q : Page). IsTrue (covers q b)) (sym there.1) covers_b)
-              ∙ same;
         }
 
-    after_all : NoneWithin start segment touch.address n (length segment.log) → FoundPage own seen event touch.address page LooksSo
+    after_all : NoneWithin start segment touch.address n (length segment.log) → FoundPage own seen event touch.address page
     after_all none =
         let low = allowed.within in
         let here : page_at space touch.address ≡ Some page =
-        sym (at_end touch.address) ∙ sym (same_within start segment touch.address n (length segment.log) low none) ∙ at in
+        sym (at_end start segment own are space depth is_space whole touch.address) ∙ sym (same_within start segment touch.address n (length segment.log) low none) ∙ at in
         let (holds, covered) = (page_at_means is_space touch.address page).0 here in
         let aligned = (is_space.well_formed page holds).aligned in
         record {
@@ -226,46 +307,28 @@ module _ (start : Space) (segment : Recording) (own earlier : List PlacedChange)
                 made_before (length segment.log) none d has_d (own_covers page touch.address aligned covered d (numbered d has_d) of) (are.each d has_d).1;
             until = λ d has_d of past. absurd (let l = (are.each d has_d).1 in omega (arith, past, l, many));
           };
-          looks = λ b frame covers_b.
-              same_within start segment b n (length segment.log) low (none_alike touch.address b n (length segment.log) frame none)
-              ∙ at_end b ∙ (page_at_means is_space b page).1 (holds, covers_b);
         }
 
-    found : FoundPage own seen event touch.address page LooksSo
+    found : FoundPage own seen event touch.address page
     found = by (first_within start segment touch.address n (length segment.log - n)) where
       it : n + (length segment.log - n) ≡ length segment.log
       it = let low = allowed.within in omega (arith, low)
 
       by : NoneWithin start segment touch.address n (n + (length segment.log - n)) ⊎ FirstWithin start segment touch.address n (n + (length segment.log - n))
-          → FoundPage own seen event touch.address page LooksSo
+          → FoundPage own seen event touch.address page
       by (inl none) = after_all (subst (λ (e : ℕ). NoneWithin start segment touch.address n e) it none)
       by (inr first) = before_change (subst (λ (e : ℕ). FirstWithin start segment touch.address n e) it first)
 
-    -- a touch of an address that looks so is right
-    probe_right : (b phys : ℕ) → touch.address / 4096 ≡ b / 4096 → LooksSo b → phys ≡ page.phys + (b - page.base)
-        → IsRightByTables start segment (probe_at event b phys)
-    probe_right b phys frame looks is = inl (
-      n,
-      record {
-        within = allowed.within;
-        flushed = λ place changes before. allowed.flushed place (changes_alike b touch.address place (sym frame) changes)
-            (subst (IsAnsweredBefore segment place) (sym made) before);
-        not_foreseen = λ place changes late. allowed.not_foreseen place (changes_alike b touch.address place (sym frame) changes)
-            (subst (IsMadeAfter segment place) (sym answered) late);
-      },
-      ap Allowed is ∙ probed b page ∙ ap (allow_in_page b Supervisor Read) (sym looks),
-    )
-
   -- ---- behind the segments before
 
-  module _ (touch : Touch) (made : touch.made ≡ event) (none : NoneFlushedFrom start segment touch) (it : IsAnsweredSo earlier touch)
-      (page : Page) (at : page_before it.change.change ≡ Some page) where
-    left_found : FoundPage own seen event touch.address page (λ b. Covers b it.change)
+  module _ (touch : Touch) (made : touch.made ≡ event) (page : Page) (none : EndsNowhere start segment touch.address (Some page) touch.made)
+      (it : IsLeftAt earlier touch.address (Some page)) where
+    left_found : FoundPage own seen event touch.address page
     left_found =
-        let there = was_there it.change page at in
-        let still : nat_lt it.change.answered 4294967295 ≡ false = elim (cases_lt it.change.answered 4294967295) [
+        let there = was_there it.change page it.looks in
+        let still : nat_lt (taken_at it.change) 4294967295 ≡ false = elim (cases_lt (taken_at it.change) 4294967295) [
           | inl early ↦ absurd (let l = it.still_open it.change it.has it.covers_it early in omega (arith, l))
-          | inr fine ↦ not_less it.change.answered 4294967295 fine
+          | inr fine ↦ grind (arith, nat_tests)
         ] in
         let is = left_numbered it.change it.has in record {
           s = seen_left it.change;
@@ -273,46 +336,26 @@ module _ (start : Space) (segment : Recording) (own earlier : List PlacedChange)
           is = there.1;
           covered = subst (λ (q : Page). IsTrue (covers q touch.address)) there.1 it.covers_it;
           alive = record {
-            there = ap (λ (b : Bool). b && not (nat_lt it.change.answered 4294967295)) there.0 ∙ ap (λ (b : Bool). true && not b) still;
+            there = ap (λ (b : Bool). b && not (nat_lt (taken_at it.change) 4294967295)) there.0 ∙ ap (λ (b : Bool). true && not b) still;
             from = λ d has_d of less. absurd (omega (arith, less));
-            until = λ d has_d of past. elim (cases_lt d.answered event) [
+            until = λ d has_d of past. elim (cases_lt (taken_at d) event) [
               | inl early ↦
-                  let known = (are.each d has_d).0 in
                   let covered = own_covers it.change.change.page touch.address is.aligned it.covers_it d (numbered d has_d) of in
-                  let (reply, before, answers) = (known.answered event fits).0 early in
-                  absurd (none d.place (known.differs touch.address covered)
-                  (d.made, known.made, (reply, subst (λ (e : ℕ). reply < e) (sym made) before, answers)))
+                  let (ends, before) = (ended_before start segment touch.address event fits d (Some page) (are.each d has_d).0 covered).0 early in
+                  absurd (none d.place ends (subst (IsAnsweredBefore segment d.place) (sym made) before))
               | inr fine ↦ fine
             ];
           };
-          looks = λ b frame covers_b. subst (λ (q : Page). IsTrue (covers q b)) (sym there.1) covers_b;
         }
-
-    left_right : (before : Option Run) → GoesOn before segment start → AreOfRun before earlier → (b phys : ℕ) → touch.address / 4096 ≡ b / 4096
-        → Covers b it.change → phys ≡ page.phys + (b - page.base) → IsRightByTablesBehind before start segment (probe_at event b phys)
-    left_right before goes_on of_run b phys frame covered is =
-        left_behind start segment earlier (probe_at event b phys) before goes_on of_run
-        (λ place changes early. none place (changes_alike b touch.address place (sym frame) changes) (subst (IsAnsweredBefore segment place) (sym made) early))
-        (record {
-          change = it.change;
-          has = it.has;
-          covers_it = covered;
-          still_open = λ other has_other covers_b early.
-              it.still_open other has_other (alike_covers other b touch.address (left_numbered other has_other) (sym frame) covers_b) early;
-          answered = ap Allowed is ∙ probed b page ∙ ap (allow_in_page b Supervisor Read) (sym at);
-        })
 
   -- ---- a release whose memory can be reached
 
   module _ (before : Option Run) (goes_on : GoesOn before segment start) (of_run : AreOfRun before earlier) (release : Release)
       (aligned : release.phys % bytes_of release.size ≡ 0) (now : release.made ≡ event) where
     -- the frame of the address
-    leads_so : (a phys : ℕ) (page : Page) (Looks : ℕ → Type 0) (there : FoundPage own seen event a page Looks)
-        → phys ≡ page.phys + (a - page.base) → HasPhys release phys
-        → ((b other : ℕ) → a / 4096 ≡ b / 4096 → Looks b → other ≡ page.phys + (b - page.base)
-        → IsRightByTablesBehind before start segment (probe_at event b other))
-        → ReachedPage before start segment own seen release a
-    leads_so a phys page Looks there is shared right =
+    leads_so : (a phys : ℕ) (page : Page) (there : FoundPage own seen event a page) → phys ≡ page.phys + (a - page.base) → HasPhys release phys
+        → FindsPage start segment earlier event page a → ReachedPage start segment own earlier seen release a
+    leads_so a phys page there is shared finds =
         let roomy = subst (λ (q : Page). (q.base % bytes_of q.size ≡ 0) × (q.phys % bytes_of q.size ≡ 0)) there.is
         (let r = all.roomy there.s there.has in (r.base, r.frame)) in
         let base = of_frames page.size page.base roomy.0 in
@@ -334,24 +377,24 @@ module _ (start : Space) (segment : Recording) (own earlier : List PlacedChange)
           shared = shared;
           low = subst (λ (q : Page). q.phys ≤ phys) (sym there.is) (omega (arith, is));
           high = subst (λ (q : Page). phys < q.phys + bytes_of q.size) (sym there.is) (omega (arith, is, within.0, within.1));
-          leads = subst (LeadsBelow before start segment release a) (sym there.is) (
+          leads = subst (LeadsBelow start segment earlier release a) (sym there.is) (
             record {
               frame = frame;
               within = omega (arith, offset, within.0, within.1);
-              met = record {
-                has = (up, omega (arith, shared.1, is, offset));
-                right = subst (λ (e : ℕ). IsRightByTablesBehind before start segment (probe_at e (page.base + frame * 4096) (page.phys + frame * 4096)))
-                    (sym now)
-                    (right (page.base + frame * 4096) (page.phys + frame * 4096) so.same (there.looks (page.base + frame * 4096) so.same covers_b)
-                    (ap (λ (n : ℕ). page.phys + n) (sym back)));
-              };
+              has = (up, omega (arith, shared.1, is, offset));
+              own = page;
+              same = record { base = refl; size = refl; phys = refl };
+              finds = subst (λ (e : ℕ). FindsPage start segment earlier e page (page.base + frame * 4096)) (sym now)
+                  (alike_finds start segment own are space depth is_space whole earlier event page a (page.base + frame * 4096)
+                  (frame_alike own numbered a (page.base + frame * 4096) so.same)
+                  (frame_alike earlier left_numbered a (page.base + frame * 4096) so.same) covers_b finds);
             },
             omega (arith, offset, within.0),
           );
         }
 
-    pub reached : (can : IsReachable before start segment release) → ReachedPage before start segment own seen release can.touch.address
-    reached can = by_right (by_tables before start segment can.touch can.right) where
+    pub reached : (can : IsReachable before start segment release) → ReachedPage start segment own earlier seen release can.touch.address
+    reached can = by ((parts_behind start segment earlier can.touch before goes_on of_run).0 can.right) where
       made : can.touch.made ≡ event
       made = can.made ∙ now
 
@@ -360,37 +403,37 @@ module _ (start : Space) (segment : Recording) (own earlier : List PlacedChange)
 
       in_segment : (n : ℕ) → IsAllowedPrefix start segment can.touch n
           → ((own_page : Page) × (page_after start segment can.touch.address n ≡ Some own_page)
-          × (can.phys ≡ own_page.phys + (can.touch.address - own_page.base))) → ReachedPage before start segment own seen release can.touch.address
+          × (can.phys ≡ own_page.phys + (can.touch.address - own_page.base))) → ReachedPage start segment own earlier seen release can.touch.address
       in_segment n allowed (page, at, is) =
-          leads_so can.touch.address can.phys page (LooksSo can.touch made answered n allowed page at) (found can.touch made answered n allowed page at) is
-          can.within
-          (λ b other frame looks so. own_right before start segment earlier (probe_at event b other) goes_on of_run
-          (probe_right can.touch made answered n allowed page at b other frame looks so))
+          leads_so can.touch.address can.phys page (found can.touch made answered n allowed page at) is can.within (inl (
+            n,
+            record {
+              within = allowed.within;
+              flushed = λ place ends early. allowed.flushed place ends (subst (IsAnsweredBefore segment place) (sym made) early);
+              not_foreseen = λ place changes late. allowed.not_foreseen place changes (subst (IsMadeAfter segment place) (sym answered) late);
+            },
+            at,
+          ))
 
-      left_over : NoneFlushedFrom start segment can.touch → (it : IsAnsweredSo earlier can.touch)
-          → ((own_page : Page) × (page_before it.change.change ≡ Some own_page) × (can.phys ≡ own_page.phys + (can.touch.address - own_page.base)))
-          → ReachedPage before start segment own seen release can.touch.address
-      left_over none it (page, at, is) =
-          leads_so can.touch.address can.phys page (λ b. Covers b it.change) (left_found can.touch made none it page at) is can.within
-          (λ b other frame covered so. left_right can.touch made none it page at before goes_on of_run b other frame covered so)
+      left_over : (page : Option Page) → EndsNowhere start segment can.touch.address page can.touch.made → IsLeftAt earlier can.touch.address page
+          → ((own_page : Page) × (page ≡ Some own_page) × (can.phys ≡ own_page.phys + (can.touch.address - own_page.base)))
+          → ReachedPage start segment own earlier seen release can.touch.address
+      left_over page none it (found_page, same, is) =
+          let nowhere = subst (λ (o : Option Page). EndsNowhere start segment can.touch.address o can.touch.made) same none in
+          let at = subst (IsLeftAt earlier can.touch.address) same it in
+          leads_so can.touch.address can.phys found_page (left_found can.touch made found_page nowhere at) is can.within
+          (inr (subst (λ (e : ℕ). EndsNowhere start segment can.touch.address (Some found_page) e) made nowhere, at))
 
-      by : IsRightByTables start segment can.touch ⊎ (NoneFlushedFrom start segment can.touch × IsAnsweredSo earlier can.touch)
-          → ReachedPage before start segment own seen release can.touch.address
+      by : IsRightTouch start segment can.touch ⊎ ((page : Option Page) × EndsNowhere start segment can.touch.address page can.touch.made
+          × IsLeftAt earlier can.touch.address page × (can.touch.answer ≡ allow_in_page can.touch.address can.touch.mode can.touch.access page))
+          → ReachedPage start segment own earlier seen release can.touch.address
       by (inl (inl (n, allowed, told))) =
           in_segment n allowed (found_page can.phys can.touch.address can.touch.mode can.touch.access
           (page_after start segment can.touch.address n) (sym can.finds ∙ told))
       by (inl (inr (fault, m, lags))) =
           absurd (let clash : Allowed can.phys ≡ Fault (fault_code false can.touch.mode can.touch.access) = sym can.finds ∙ fault in cc)
-      by (inr (none, it)) =
-          left_over none it (found_page can.phys can.touch.address can.touch.mode can.touch.access (page_before it.change.change)
-          (sym can.finds ∙ it.answered))
-
-      by_right : IsRightByTablesBehind before start segment can.touch ⊎ IsFaultOfKeptBehind before start segment can.touch
-          → ReachedPage before start segment own seen release can.touch.address
-      by_right (inl right) = by (parts_behind start segment earlier can.touch before goes_on of_run right)
-      by_right (inr kept) = absurd (
-          let fault = kept_fault before start segment can.touch kept in
-          let clash : Allowed can.phys ≡ Fault (fault_code true can.touch.mode can.touch.access) = sym can.finds ∙ fault in cc)
+      by (inr (page, none, it, answered)) =
+          left_over page none it (found_page can.phys can.touch.address can.touch.mode can.touch.access page (sym can.finds ∙ answered))
 
 -- what leads there can be reached
 pub reachable : (before : Option Run) (start : Space) (segment : Recording) (release : Release) (page : Page) → LeadsThere before start segment release page
@@ -402,6 +445,28 @@ reachable before start segment release page leads = record {
   phys = page.phys + leads.frame * 4096;
   finds = refl;
   within = leads.met.has;
-  right = tables_right before start segment
-      (probe_at release.made (page.base + leads.frame * 4096) (page.phys + leads.frame * 4096)) leads.met.right;
+  right = leads.met.right;
 }
+
+-- an earlier frame that has the same changes as one in which the page leads there so is met
+pub leads_alike : (before : Option Run) (start : Space) (segment : Recording) (own earlier : List PlacedChange) → AreChanges start segment own
+    → GoesOn before segment start → AreOfRun before earlier → (space : Space) (depth : Depth) → IsSpace depth space
+    → space ≡ space_from start segment segment.log → (release : Release) (page : Page) → IsRoomy page → (leads : LeadsSo start segment earlier release page)
+    → (frame : ℕ) → frame ≤ leads.frame → release.phys ≤ page.phys + frame * 4096
+    → AreAlike own (page.base + frame * 4096) (page.base + leads.frame * 4096)
+    → AreAlike earlier (page.base + frame * 4096) (page.base + leads.frame * 4096) → IsMetAt before start segment release page (frame * 4096)
+leads_alike before start segment own earlier are goes_on of_run space depth is_space whole release page roomy leads frame low up alike left_alike =
+    let a = page.base + frame * 4096 in
+    let b = page.base + leads.frame * 4096 in
+    let same = leads.same in
+    let within = leads.within in
+    let covered : IsTrue (covers page a) = (covers_means page a).1 (omega arith, omega (arith, within, low)) in
+    let has = leads.has in
+    let own_covered : IsTrue (covers leads.own a) = same_covers page leads.own a same covered in
+    let found = alike_finds start segment own are space depth is_space whole earlier release.made leads.own b a (alike_back own a b alike)
+    (alike_back earlier a b left_alike) own_covered leads.finds in
+    record {
+      has = (up, omega (arith, has.1, low));
+      right = finds_right start segment own are space depth is_space whole earlier release.made leads.own before goes_on of_run a (page.phys + frame * 4096)
+          (let base = same.base in let phys = same.phys in omega (arith, base, phys)) found;
+    }

@@ -23,8 +23,8 @@ use Rattle.nr_trace.specs.Orders.{space_from}
 use Rattle.nr_trace.proofs.LawsOfCalls.{some_or_none, answers_from, answers_within, reply_here, reply_that_answers}
 use Rattle.nr_touch.specs.Touches.{ChangesLook}
 use Rattle.nr_touch.specs.inside.Changes.{IsChange, IsPlaced, AreChangesBelow, AreReplies, Lists, listed, number_of}
-use Rattle.nr_touch.specs.declared.change.Change.{Change}
-use Rattle.nr_touch.specs.declared.change.PlacedChange.{PlacedChange}
+use Rattle.nr_touch.specs.declared.changes.change.Change.{Change}
+use Rattle.nr_touch.specs.declared.changes.change.PlacedChange.{PlacedChange}
 
 -- ---- replies
 
@@ -128,6 +128,7 @@ listed_more start trace changes place are (Some change) made answered placed rep
       number = refl;
       was = is.was;
       differs = is.differs;
+      takes = is.takes;
       answered = replied;
     })
     refl

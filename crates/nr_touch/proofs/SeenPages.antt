@@ -7,8 +7,8 @@ use Rattle.vs_types.specs.declared.page.Page.{Page}
 use Rattle.vs_types.proofs.Spaces.{holds_listed}
 use Rattle.nr_touch.specs.inside.Columns.{IsNumbered}
 use Rattle.nr_touch.specs.inside.Reached.{seen_before, seen_left, seen_now, AreSeen, IsRoomy}
-use Rattle.nr_touch.specs.declared.change.PlacedChange.{PlacedChange}
-use Rattle.nr_touch.specs.declared.seen.Seen.{Seen}
+use Rattle.nr_touch.specs.declared.changes.change.PlacedChange.{PlacedChange}
+use Rattle.nr_touch.specs.declared.releases.seen.Seen.{Seen}
 use Rattle.nr_touch.proofs.Replayed.{page_ends}
 use Rattle.nr_touch.proofs.Sighted.{contains_map, map_contains}
 

@@ -1,13 +1,13 @@
--- The latest event at which changes of a page before a place were made, and the earliest at which those from it on were answered.
+-- The latest event at which changes of a page before a place were made, and the earliest at which those from it on that take away were answered.
 use Rattle.std.proofs.Common.{◌≡◌, ℕ, zero, suc, ◌+◌, ◌-◌, ◌<◌, ◌≤◌, ◌^◌, ◌⊎◌, inl, inr, List, get_or, length, map, refl, sym, ap, ◌∙◌, arith}
 use Rattle.std.proofs.lemmas.List.{length-map}
 use Rattle.nr_touch.specs.inside.Bounds.{IsBoundary, IsLowered, IsRaised}
-use Rattle.nr_touch.specs.inside.Changes.{number_of}
+use Rattle.nr_touch.specs.inside.Changes.{number_of, taken_at}
 use Rattle.nr_touch.specs.inside.Columns.{AreColumns, IsEarliest, IsLatest}
 use Rattle.nr_touch.specs.inside.Reached.{IsAlive}
-use Rattle.nr_touch.specs.declared.change.PlacedChange.{PlacedChange}
-use Rattle.nr_touch.specs.declared.history.History.{History}
-use Rattle.nr_touch.specs.declared.seen.Seen.{Seen}
+use Rattle.nr_touch.specs.declared.changes.change.PlacedChange.{PlacedChange}
+use Rattle.nr_touch.specs.declared.changes.history.History.{History}
+use Rattle.nr_touch.specs.declared.releases.seen.Seen.{Seen}
 use Rattle.nr_touch.proofs.Found.{as_many, column, element, page_at, place_at}
 
 -- a number that is raised is one of the page up to it
@@ -56,18 +56,18 @@ module _ (h : History) (are : AreColumns h) (page place k : ℕ) (found : IsBoun
       let here = place_at h are j it.0 l it.1 in
       inr (it.0, (j, l, it.1), number, omega (arith, less, here), at ∙ column h are (λ c. c.made) j it.0 l it.1)
 
-  pub earliest_behind : k < length h.pages.items → get_or h.pages.items k 0 ≡ page → IsEarliest h.changes.items page place (get_or h.answered.items k 0)
+  pub earliest_behind : k < length h.pages.items → get_or h.pages.items k 0 ≡ page → IsEarliest h.changes.items page place (get_or h.taken.items k 0)
   earliest_behind there own =
       let many = as_many h are in
-      let all = length-map h.changes.items (λ (c : PlacedChange). c.answered) in
-      let (j, low, within, same, at) = lowered_at h.pages.items (map (λ (c : PlacedChange). c.answered) h.changes.items) h.answered.items are.answered
+      let all = length-map h.changes.items taken_at in
+      let (j, low, within, same, at) = lowered_at h.pages.items (map taken_at h.changes.items) h.taken.items are.taken
       (length h.changes.items - (k + 1)) k (omega (arith, there, many, all)) in
       let l : j < length h.changes.items = omega (arith, within, all) in
       let it = element h.changes.items j l in
       let number : it.0.number ≡ page = sym (page_at h are j it.0 l it.1) ∙ same ∙ own in
       let high = found.reached j low (omega (arith, l, many)) (same ∙ own) in
       let here = place_at h are j it.0 l it.1 in
-      inr (it.0, (j, l, it.1), number, omega (arith, high, here), at ∙ column h are (λ c. c.answered) j it.0 l it.1)
+      inr (it.0, (j, l, it.1), number, omega (arith, high, here), at ∙ column h are taken_at j it.0 l it.1)
 
 -- a page that is alive at an event is so from the one on up to the other
 pub spanned : (changes : List PlacedChange) (s : Seen) (number from until event : ℕ) → number ≡ number_of s.page → IsLatest changes number s.place from

@@ -5,10 +5,11 @@ use Rattle.std.proofs.lemmas.List.Elements.{Contains-append_cases, Contains-appe
 use Rattle.std.proofs.lemmas.Option.{same_Some, slice_get_within, slice_get-get_or}
 use Rattle.vs_types.specs.declared.page.Page.{Page}
 use Rattle.nr_touch.specs.inside.Reached.{IsAlive, IsRoomy}
-use Rattle.nr_touch.specs.inside.Stays.{AreRoomy, HasStay, HaveStays, IsSamePlace}
-use Rattle.nr_touch.specs.declared.change.PlacedChange.{PlacedChange}
-use Rattle.nr_touch.specs.declared.seen.Seen.{Seen}
-use Rattle.nr_touch.specs.declared.stays.Stay.{Stay}
+use Rattle.nr_touch.specs.inside.Reached.{IsSamePlace}
+use Rattle.nr_touch.specs.inside.Stays.{AreRoomy, HasStay, HaveStays}
+use Rattle.nr_touch.specs.declared.changes.change.PlacedChange.{PlacedChange}
+use Rattle.nr_touch.specs.declared.releases.seen.Seen.{Seen}
+use Rattle.nr_touch.specs.declared.releases.stays.Stay.{Stay}
 use Rattle.nr_touch.proofs.IndexRows.{one_more}
 use Rattle.nr_touch.proofs.Lefts.{in_got}
 

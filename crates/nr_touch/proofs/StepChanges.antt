@@ -1,5 +1,6 @@
 -- What a step of a space changes: one page, or no address looks otherwise.
-use Rattle.std.proofs.Common.{◌≡◌, ◌≢◌, ℕ, ◌+◌, ◌-◌, cond, true, false, ◌⊎◌, inl, inr, Option, Some, None, IsTrue, refl, sym, ap, ◌∙◌, subst, arith}
+use Rattle.std.proofs.Common.{◌≡◌, ◌≢◌, ◌↔◌, ℕ, ◌+◌, ◌-◌, cond, Bool, true, false, ◌⊎◌, inl, inr, Option, Some, None, IsSomeAnd, IsTrue, refl, sym, ap, ◌∙◌, subst, arith}
+use Rattle.std.proofs.lemmas.Bool.{false≢true}
 use Rattle.std.proofs.lemmas.Option.{same_Some}
 use Rattle.std.specs.FinMap as finite
 use Rattle.vs_types.specs.declared.depth.Depth.{Depth}
@@ -14,16 +15,41 @@ use Rattle.vs_types.specs.Step.{step, look, look_in_page}
 use Rattle.vs_types.proofs.Pages.{covers_base}
 use Rattle.vs_types.proofs.Spaces.{page_at_means, page_at_after_insert, page_at_after_remove}
 use Rattle.vs_types.proofs.Steps.{map_cases, unmap_cases, protect_cases, alone, protect_space, step_space}
+use Rattle.nr_touch.specs.Touches.{Includes, IsTaken, StillHas}
 use Rattle.nr_touch.specs.inside.Changes.{IsPageChange, IsChange}
-use Rattle.nr_touch.specs.declared.change.Change.{Change}
+use Rattle.nr_touch.specs.declared.changes.change.Change.{Change}
 use Rattle.nr_touch.proofs.QuietPages.{page_or_not}
 use Rattle.nr_touch.proofs.Undone.{insert_elsewhere, remove_elsewhere}
 
 abbrev fresh : Page → Change
-fresh page = record { page = page; was_mapped = false; least = page.rights }
+fresh page = record { page = page; was_mapped = false; takes = false }
 
-abbrev there : Page → Change
-there page = record { page = page; was_mapped = true; least = page.rights }
+abbrev there : Page → Bool → Change
+there page takes = record { page = page; was_mapped = true; takes = takes }
+
+-- ---- what is taken away
+
+pub none_taken : (after : Option Page) → IsTaken None after → ⊥
+none_taken after it = let was : None ≡ Some it.page = it.was in cc
+
+gone_taken : (page : Page) → IsTaken (Some page) None
+gone_taken page = record { page = page; was = refl; gone = λ still. let is : None ≡ Some (record page { rights = still.rights }) = still.is in cc }
+
+-- a page with other rights is taken from just if these lack one that it had
+less_taken : (page : Page) (rights : Rights) → IsTaken (Some page) (Some (record page { rights = rights })) ↔ (Includes page.rights rights → ⊥)
+less_taken page rights = (
+  λ it more.
+      let same : page ≡ it.page = same_Some page it.page it.was in
+      it.gone (subst (λ (q : Page). StillHas q (Some (record page { rights = rights }))) same (record { rights = rights; is = refl; more = more })),
+  λ less. record {
+    page = page;
+    was = refl;
+    gone = λ still.
+        let same : rights ≡ still.rights =
+        ap (λ (q : Page). q.rights) (same_Some (record page { rights = rights }) (record page { rights = still.rights }) still.is) in
+        less (subst (Includes page.rights) (sym same) still.more);
+  },
+)
 
 module _ {depth : Depth} (limit : ℕ) {space : Space} (is : IsSpace depth space) where
   unchanged : (after : Space) (result : Option Change) → after ≡ space → result ≡ None → IsChange depth space after result
@@ -37,7 +63,7 @@ module _ {depth : Depth} (limit : ℕ) {space : Space} (is : IsSpace depth space
     | Some q ↦ λ at. let found = (page_at_means is a q).0 at in absurd (alone is page e q a found.0 found.1 covered)
   ] refl
 
-  added : (page : Page) → IsPage depth page → least_overlapped space page ≡ None → IsSpace depth (finite.insert space page.base page)
+  pub added : (page : Page) → IsPage depth page → least_overlapped space page ≡ None → IsSpace depth (finite.insert space page.base page)
       → IsPageChange depth space (finite.insert space page.base page) (fresh page)
   added page good e new = record {
     well_formed = good;
@@ -47,6 +73,11 @@ module _ {depth : Depth} (limit : ℕ) {space : Space} (is : IsSpace depth space
         let here : page_at (finite.insert space page.base page) a ≡ Some page =
         at a ∙ ap (λ b. cond b (Some page) (page_at space a)) covered in
         cc;
+    takes = λ a covered. (
+      λ t. absurd (false≢true t),
+      λ it. absurd (none_taken (page_at (finite.insert space page.base page) a)
+          (subst (λ (o : Option Page). IsTaken o (page_at (finite.insert space page.base page) a)) (nothing page e a covered) it)),
+    );
     others = λ a uncovered. sym (at a ∙ ap (λ b. cond b (Some page) (page_at space a)) uncovered);
     elsewhere = insert_elsewhere space page.base page;
   } where
@@ -70,7 +101,7 @@ module _ {depth : Depth} (limit : ℕ) {space : Space} (is : IsSpace depth space
 
   -- ---- an unmap
 
-  gone : (page : Page) → Holds space page → IsPageChange depth space (finite.remove space page.base) (there page)
+  pub gone : (page : Page) → Holds space page → IsPageChange depth space (finite.remove space page.base) (there page true)
   gone page holds = record {
     well_formed = is.well_formed page holds;
     was = λ a covered. (page_at_means is a page).1 (holds, covered);
@@ -79,12 +110,21 @@ module _ {depth : Depth} (limit : ℕ) {space : Space} (is : IsSpace depth space
         let here : page_at (finite.remove space page.base) a ≡ None =
         page_at_after_remove is page holds a ∙ ap (λ b. cond b None (page_at space a)) covered in
         cc;
+    takes = λ a covered. (
+      λ t.
+          let was = (page_at_means is a page).1 (holds, covered) in
+          let here : page_at (finite.remove space page.base) a ≡ None =
+          page_at_after_remove is page holds a ∙ ap (λ b. cond b None (page_at space a)) covered in
+          subst (λ (o : Option Page). IsTaken o (page_at (finite.remove space page.base) a)) (sym was)
+          (subst (IsTaken (Some page)) (sym here) (gone_taken page)),
+      λ it. refl,
+    );
     others = λ a uncovered. sym (page_at_after_remove is page holds a ∙ ap (λ b. cond b None (page_at space a)) uncovered);
     elsewhere = remove_elsewhere space page.base;
   }
 
   pub unmap_change : (base : ℕ) (answer : Answer) (after : Space) (result : Option Change)
-      → ((page : Page) → page.base ≡ base → answer ≡ Removed page.phys page.size page.rights → result ≡ Some (there page))
+      → ((page : Page) → page.base ≡ base → answer ≡ Removed page.phys page.size page.rights → result ≡ Some (there page true))
       → (((page : Page) → answer ≢ Removed page.phys page.size page.rights) → result ≡ None)
       → answer ≡ (step depth limit space (Unmap base)).answer → after ≡ (step depth limit space (Unmap base)).space
       → IsChange depth space after result
@@ -92,7 +132,7 @@ module _ {depth : Depth} (limit : ℕ) {space : Space} (is : IsSpace depth space
       unmap_cases (λ s. answer ≡ s.answer → after ≡ s.space → IsChange depth space after result) depth limit space base
       (λ e told same. unchanged after result same (none (λ page removed. cc)))
       (λ page e begins told same. subst (IsChange depth space after) (sym (found page begins told))
-      (subst (λ s. IsPageChange depth space s (there page)) (sym (same ∙ ap (finite.remove space) (sym begins)))
+      (subst (λ s. IsPageChange depth space s (there page true)) (sym (same ∙ ap (finite.remove space) (sym begins)))
       (gone page ((page_at_means is base page).0 e).0)))
       (λ page e differs told same. unchanged after result same (none (λ page removed. cc)))
 
@@ -108,13 +148,20 @@ module _ {depth : Depth} (limit : ℕ) {space : Space} (is : IsSpace depth space
     at : (a : ℕ) → page_at (finite.insert space page.base other) a ≡ cond (covers page a) (Some other) (page_at space a)
     at a = page_at_after_insert is other (protect_space is page rights holds) (λ q h same. ap (λ (z : Page). z.size) (one q h same)) a
 
-    protected : page ≢ other → IsPageChange depth space (finite.insert space page.base other) (there page)
-    protected apart = record {
+    protected : (takes : Bool) → page ≢ other → IsTrue takes ↔ (Includes page.rights rights → ⊥)
+        → IsPageChange depth space (finite.insert space page.base other) (there page takes)
+    protected takes apart less = record {
       well_formed = is.well_formed page holds;
       was = λ a covered. (page_at_means is a page).1 (holds, covered);
       differs = λ a covered same.
           apart (same_Some page other (sym ((page_at_means is a page).1 (holds, covered)) ∙ same
           ∙ at a ∙ ap (λ b. cond b (Some other) (page_at space a)) covered));
+      takes = λ a covered.
+          let was = (page_at_means is a page).1 (holds, covered) in
+          let here : page_at (finite.insert space page.base other) a ≡ Some other = at a ∙ ap (λ b. cond b (Some other) (page_at space a)) covered in
+          subst (λ (o : Option Page). IsTrue takes ↔ IsTaken o (page_at (finite.insert space page.base other) a)) (sym was)
+          (subst (λ (o : Option Page). IsTrue takes ↔ IsTaken (Some page) o) (sym here)
+          ((λ t. (less_taken page rights).1 (less.0 t)), (λ it. less.1 ((less_taken page rights).0 it))));
       others = λ a uncovered. sym (at a ∙ ap (λ b. cond b (Some other) (page_at space a)) uncovered);
       elsewhere = insert_elsewhere space page.base other;
     }
@@ -134,7 +181,8 @@ module _ {depth : Depth} (limit : ℕ) {space : Space} (is : IsSpace depth space
 
   pub protect_change : (base : ℕ) (rights : Rights) (answer : Answer) (after : Space) (result : Option Change)
       → ((page : Page) → page.base ≡ base → page.rights ≢ rights → answer ≡ Changed page.rights
-      → look after base ≡ Mapped page.phys page.size rights → result ≡ Some (there page))
+      → look after base ≡ Mapped page.phys page.size rights → IsSomeAnd result (λ change. (change.page ≡ page) × (change.was_mapped ≡ true)
+      × (IsTrue change.takes ↔ (Includes page.rights rights → ⊥))))
       → (answer ≡ Changed rights → result ≡ None)
       → (((old : Rights) → answer ≢ Changed old) → result ≡ None)
       → answer ≡ (step depth limit space (Protect base rights)).answer → after ≡ (step depth limit space (Protect base rights)).space
@@ -145,6 +193,15 @@ module _ {depth : Depth} (limit : ℕ) {space : Space} (is : IsSpace depth space
       (λ page e begins told left. by_rights page ((page_at_means is base page).0 e).0 begins told left (page_or_not page (record page { rights = rights })))
       (λ page e differs told left. unchanged after result left (none (λ old changed. cc)))
     where
+      by_found : (page : Page) → Holds space page → after ≡ finite.insert space page.base (record page { rights = rights })
+          → page ≢ record page { rights = rights } → (result : Option Change) → IsSomeAnd result (λ change. (change.page ≡ page)
+          × (change.was_mapped ≡ true) × (IsTrue change.takes ↔ (Includes page.rights rights → ⊥))) → IsChange depth space after result
+      by_found page holds left apart None none = absurd none
+      by_found page holds left apart (Some change) (same, mapped, less) =
+          let one : there page change.takes ≡ change = λ i. record { page = sym same i; was_mapped = sym mapped i; takes = change.takes } in
+          subst (IsPageChange depth space after) one
+          (subst (λ s. IsPageChange depth space s (there page change.takes)) (sym left) (protected page holds rights change.takes apart less))
+
       by_rights : (page : Page) → Holds space page → page.base ≡ base → answer ≡ Changed page.rights
           → after ≡ finite.insert space page.base (record page { rights = rights })
           → (page ≡ record page { rights = rights }) ⊎ (page ≢ record page { rights = rights }) → IsChange depth space after result
@@ -155,5 +212,4 @@ module _ {depth : Depth} (limit : ℕ) {space : Space} (is : IsSpace depth space
           let differs : page.rights ≢ rights = λ e. apart (λ i. record page { rights = e i }) in
           let seen : look after base ≡ Mapped page.phys page.size rights =
           ap (λ s. look s base) left ∙ looks page holds rights base begins in
-          subst (IsChange depth space after) (sym (found page begins differs told seen))
-          (subst (λ s. IsPageChange depth space s (there page)) (sym left) (protected page holds rights apart))
+          by_found page holds left apart result (found page begins differs told seen)

@@ -3,7 +3,7 @@ use Rattle.std.proofs.Common.{◌≡◌, ℕ, ◌+◌, ◌-◌, ◌<◌, ◌≤�
 use Rattle.std.proofs.lemmas.Bool.{cases_lt}
 use Rattle.std.proofs.lemmas.List.{get_or_append_left, get_or_push, get_or_read, length_push}
 use Rattle.nr_touch.specs.inside.Stays.{AreStretches, EndsBy}
-use Rattle.nr_touch.specs.declared.stays.Stay.{Stay}
+use Rattle.nr_touch.specs.declared.releases.stays.Stay.{Stay}
 
 pub no_stretches : (stays : List Stay) (rows since until : List ℕ) → length since ≡ 0 → length until ≡ 0 → AreStretches stays rows since until 0
 no_stretches stays rows since until firsts lasts =

@@ -23,9 +23,9 @@ use Rattle.nr_touch.specs.Touches.{page_after, ChangesLook}
 use Rattle.nr_touch.specs.inside.Changes.{number_at, AreChanges, AreReplies, IsPlaced}
 use Rattle.nr_touch.specs.inside.Columns.{IsNumbered, IsOf}
 use Rattle.nr_touch.specs.inside.Lives.{opening_of, AreOpenings, HasLife, IsMet, IsOpenWithin}
-use Rattle.nr_touch.specs.declared.change.PlacedChange.{PlacedChange}
-use Rattle.nr_touch.specs.declared.lives.Life.{Life}
-use Rattle.nr_touch.specs.declared.lives.Lives.{Lives}
+use Rattle.nr_touch.specs.declared.changes.change.PlacedChange.{PlacedChange}
+use Rattle.nr_touch.specs.declared.releases.lives.Life.{Life}
+use Rattle.nr_touch.specs.declared.releases.lives.Lives.{Lives}
 use Rattle.nr_touch.proofs.Found.{element}
 use Rattle.nr_touch.proofs.Overs.{any_below, below_any, one_test, over_is, over_means}
 use Rattle.nr_touch.proofs.Sizes.{covered_numbered, number_covered}

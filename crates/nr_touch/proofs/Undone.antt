@@ -26,8 +26,8 @@ use Rattle.vs_plain.specs.Plain.{BoundedSpace}
 use Rattle.nr_touch.specs.inside.Changes.{page_before, listed, number_of, IsChange}
 use Rattle.nr_touch.specs.inside.Columns.{IsNumbered}
 use Rattle.nr_touch.specs.inside.Undo.{ComesFrom, LeadsTo}
-use Rattle.nr_touch.specs.declared.change.Change.{Change}
-use Rattle.nr_touch.specs.declared.change.PlacedChange.{PlacedChange}
+use Rattle.nr_touch.specs.declared.changes.change.Change.{Change}
+use Rattle.nr_touch.specs.declared.changes.change.PlacedChange.{PlacedChange}
 use Rattle.nr_touch.proofs.Replayed.{page_ends}
 
 -- ---- spaces by what begins at each base

@@ -1,6 +1,7 @@
 -- The walk of a touch through the states of its address that are allowed.
 use Rattle.std.proofs.Common.{◌≡◌, ℕ, zero, suc, ◌+◌, ◌-◌, ◌<◌, ◌≤◌, ◌^◌, ◌⊎◌, ◌↔◌, inl, inr, Bool, true, false, List, get_or, length, take, slice_get, Option}
 use Rattle.std.proofs.Common.{Some, None, IsSomeAnd, IsTrue}
+use Rattle.std.specs.Prelude.{is_some}
 use Rattle.std.proofs.Common.{sym, ap, ◌∙◌, subst, arith}
 use Rattle.std.proofs.Math.Seq.{take-length}
 use Rattle.std.specs.List.Sorted.{IsPermutation}
@@ -10,18 +11,20 @@ use Rattle.std.proofs.lemmas.Bool.{cases_lt, false≢true}
 use Rattle.nr_touch.specs.Stale.{AreRightBelow, FindsStale}
 use Rattle.vs_types.specs.Space.{Space, page_at}
 use Rattle.vs_types.specs.Step.{allow, allow_in_page}
+use Rattle.vs_types.specs.declared.page.Page.{Page}
 use Rattle.nr_trace.specs.Recording.{Recording}
 use Rattle.nr_trace.specs.Calls.{Answers}
 use Rattle.nr_trace.specs.Orders.{space_from}
 use Rattle.nr_joined.specs.Run.{Run}
 use Rattle.nr_touch.specs.Touches.{page_after, ChangesLook, IsAllowedPrefix, IsAnsweredAt, IsMadeAfter, IsRightBehind}
-use Rattle.nr_touch.specs.inside.Changes.{AreChanges}
+use Rattle.nr_touch.specs.inside.Changes.{ended_at, AreChanges}
 use Rattle.nr_touch.specs.inside.Columns.{Covers, IsPast, IsAhead, IsNext}
 use Rattle.nr_touch.specs.inside.Sights.{IsAnsweredBetween}
 use Rattle.nr_touch.specs.inside.Walk.{shown}
-use Rattle.nr_touch.specs.declared.change.PlacedChange.{PlacedChange}
-use Rattle.nr_touch.specs.declared.touch.Touch.{Touch}
+use Rattle.nr_touch.specs.declared.changes.change.PlacedChange.{PlacedChange}
+use Rattle.nr_touch.specs.declared.touches.touch.Touch.{Touch}
 use Rattle.nr_touch.proofs.QuietPages.{look_or_not, same_look}
+use Rattle.nr_touch.proofs.cuts.Ended.{ends_past, past_ends}
 
 -- so many places are not past the next change
 abbrev pub UpToNext : ℕ → Option PlacedChange → Type 0
@@ -58,32 +61,25 @@ module _ (start : Space) (trace : Recording) (changes : List PlacedChange) (are 
 
   -- ---- which prefixes are allowed
 
-  module _ (touch : Touch) (first last n : ℕ) (fits : touch.made < 2 ^ 32)
-      (past : IsPast changes (λ c. Covers touch.address c × (c.answered < touch.made)) first)
+  module _ (touch : Touch) (first last n : ℕ) (finds : Bool) (sees : finds ≡ is_some (page_after start trace touch.address n)) (fits : touch.made < 2 ^ 32)
+      (past : IsPast changes (λ c. Covers touch.address c × (ended_at finds c < touch.made)) first)
       (ahead : IsAhead changes (λ c. Covers touch.address c × (touch.answered < c.made)) (length trace.log) last) where
+    abbrev look : Option Page
+    look = page_after start trace touch.address n
+
+    past_so : IsPast changes (λ c. Covers touch.address c × (ended_at (is_some look) c < touch.made)) first
+    past_so = subst (λ (b : Bool). IsPast changes (λ c. Covers touch.address c × (ended_at b c < touch.made)) first) sees past
+
     pub allowed : first ≤ n → n ≤ last → IsAllowedPrefix start trace touch n
     allowed low high = record {
       within = let most = last_within touch last ahead in omega (arith, most, high);
-      flushed = λ place looks (call, placed, (reply, before, answers)).
-          let (c, has, at, covered) = are.all place touch.address (slice_get_within trace.log place call placed) looks in
-          let known = (are.each c has).0 in
-          let one : c.made ≡ call = same_Some c.made call (sym known.made ∙ ap (slice_get trace.log) at ∙ placed) in
-          let early : c.answered < touch.made =
-          (known.answered touch.made fits).1 (reply, before, subst (λ k. Answers trace reply k) (sym one) answers) in
-          let less = past.all c has (covered, early) in
-          omega (arith, less, at, low);
+      flushed = λ place ends early.
+          let less = ends_past start trace touch.address touch.made fits changes are look first past_so place ends early in omega (arith, less, low);
       not_foreseen = none_foreseen touch last ahead n high;
     }
 
     pub allowed_from : IsAllowedPrefix start trace touch n → first ≤ n
-    allowed_from is = elim past.some [
-      | inl none ↦ omega (arith, none)
-      | inr (c, has, (covered, early), at) ↦
-          let known = (are.each c has).0 in
-          let told = (known.answered touch.made fits).0 early in
-          let less = is.flushed c.place (known.differs touch.address covered) (c.made, known.made, told) in
-          omega (arith, less, at)
-    ]
+    allowed_from is = past_ends start trace touch.address touch.made fits changes are look first past_so n is.flushed
 
     pub allowed_to : IsAllowedPrefix start trace touch n → n ≤ last
     allowed_to is = up_to_foreseen touch last ahead n is.within is.not_foreseen

@@ -1,5 +1,4 @@
 pub mod Touches
-pub mod Kept
 pub mod Stale
 pub mod Tails
 pub mod Looks

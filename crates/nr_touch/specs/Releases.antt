@@ -6,8 +6,8 @@ use Rattle.vs_types.specs.declared.answer.Answer.TheVariants.{Allowed}
 use Rattle.nr_trace.specs.Recording.{IsMemory, Recording}
 use Rattle.nr_joined.specs.Run.{Run}
 use Rattle.nr_touch.specs.Touches.{IsRightBehind}
-use Rattle.nr_touch.specs.declared.release.Release.{Release}
-use Rattle.nr_touch.specs.declared.touch.Touch.{Touch}
+use Rattle.nr_touch.specs.declared.releases.release.Release.{Release}
+use Rattle.nr_touch.specs.declared.touches.touch.Touch.{Touch}
 
 -- the memory of a release has the physical address
 abbrev pub HasPhys : Release → ℕ → Type 0

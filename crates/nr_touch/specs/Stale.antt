@@ -4,7 +4,7 @@ use Rattle.vs_types.specs.Space.{Space}
 use Rattle.nr_trace.specs.Recording.{Recording}
 use Rattle.nr_joined.specs.Run.{Run}
 use Rattle.nr_touch.specs.Touches.{IsRightBehind}
-use Rattle.nr_touch.specs.declared.touch.Touch.{Touch}
+use Rattle.nr_touch.specs.declared.touches.touch.Touch.{Touch}
 
 -- each touch below an index is right
 abbrev pub AreRightBelow : Option Run → Space → Recording → List Touch → ℕ → Type 0

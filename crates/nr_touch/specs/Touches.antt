@@ -12,7 +12,7 @@ use Rattle.nr_trace.specs.Faults.{HasPlaced}
 use Rattle.nr_trace.specs.Orders.{space_from, floor}
 use Rattle.nr_joined.specs.Joined.{joined_traces}
 use Rattle.nr_joined.specs.Run.{Run}
-use Rattle.nr_touch.specs.declared.touch.Touch.{Touch}
+use Rattle.nr_touch.specs.declared.touches.touch.Touch.{Touch}
 
 -- the page that covers an address after the first entries of the log, this many
 abbrev pub page_after : Space → Recording → ℕ → ℕ → Option Page
@@ -30,11 +30,44 @@ IsAnsweredBefore trace place event = HasPlaced trace place (λ call. (reply : �
 abbrev pub IsMadeAfter : Recording → ℕ → ℕ → Type 0
 IsMadeAfter trace place event = HasPlaced trace place (λ call. event < call)
 
--- a touch may be answered from the first entries of the log, this many. They have each update that changes how its address looks and was
--- answered before it was made. They have none that changes that and was made after it was answered
+-- rights that have each of others
+pub record Includes (old new : Rights) : Type 0 where
+  pub write : old.write ≡ true → new.write ≡ true
+  pub user : old.user ≡ true → new.user ≡ true
+  pub exec : old.exec ≡ true → new.exec ≡ true
+
+-- an address still has a page: one of equal base, size and physical address, with every right that it had
+pub record StillHas (page : Page) (after : Option Page) : Type 0 where
+  pub rights : Rights
+  pub is : after ≡ Some (record page { rights = rights })
+  pub more : Includes page.rights rights
+
+-- a page covered the address, and it no longer has that page, or not with every right
+pub record IsTaken (before after : Option Page) : Type 0 where
+  pub page : Page
+  pub was : before ≡ Some page
+  pub gone : StillHas page after → ⊥
+
+-- the update of a place takes away from an address: a page covered it, and afterwards it no longer has that page, or not with every right
+abbrev pub TakesAway : Space → Recording → ℕ → ℕ → Type 0
+TakesAway start trace address place = IsTaken (page_after start trace address place) (page_after start trace address (place + 1))
+
+-- how an address looks changes from before to after, and this ends that it is found to look so. A page is kept until something is taken away from the
+-- address. That no page is there is kept by nobody
+abbrev pub Ends : Option Page → Option Page → Option Page → Type 0
+Ends None before after = before ≢ after
+Ends (Some page) before after = IsTaken before after
+
+-- the answer of the update of a place ends that the address is found to look so
+abbrev pub EndsLook : Space → Recording → ℕ → Option Page → ℕ → Type 0
+EndsLook start trace address page place = Ends page (page_after start trace address place) (page_after start trace address (place + 1))
+
+-- a touch may be answered from the first entries of the log, this many. They have each update that was answered before it was made and ends that
+-- its address is found to look as after them. They have none that changes how it looks and was made after the touch was answered
 pub record IsAllowedPrefix (start : Space) (trace : Recording) (touch : Touch) (n : ℕ) : Type 0 where
   pub within : n ≤ length trace.log
-  pub flushed : (place : ℕ) → ChangesLook start trace touch.address place → IsAnsweredBefore trace place touch.made → place < n
+  pub flushed : (place : ℕ) → EndsLook start trace touch.address (page_after start trace touch.address n) place
+      → IsAnsweredBefore trace place touch.made → place < n
   pub not_foreseen : (place : ℕ) → ChangesLook start trace touch.address place → IsMadeAfter trace place touch.answered → n ≤ place
 
 -- the touch is answered as the space after so many entries answers
@@ -61,44 +94,9 @@ pub record IsLagging (start : Space) (trace : Recording) (touch : Touch) (m : �
 abbrev pub IsFaultOfLagging : Space → Recording → Touch → Type 0
 IsFaultOfLagging start trace touch = IsFaultOfNone touch × (m : ℕ) × IsLagging start trace touch m
 
--- rights that have each of others
-pub record Includes (old new : Rights) : Type 0 where
-  pub write : old.write ≡ true → new.write ≡ true
-  pub user : old.user ≡ true → new.user ≡ true
-  pub exec : old.exec ≡ true → new.exec ≡ true
-
--- a page is as it was, but with rights that include those that it had
-pub record IsWidened (before after : Option Page) : Type 0 where
-  pub page : Page
-  pub rights : Rights
-  pub was : before ≡ Some page
-  pub is : after ≡ Some (record page { rights = rights })
-  pub more : Includes page.rights rights
-
--- each update from one number of entries to another that changes how the address looks leaves its page, with rights that include those before
-abbrev pub OnlyWidens : Space → Recording → ℕ → ℕ → ℕ → Type 0
-OnlyWidens start trace address m n = (place : ℕ) → m ≤ place → place < n → ChangesLook start trace address place
-    → IsWidened (page_after start trace address place) (page_after start trace address (place + 1))
-
--- the touch is answered by a fault of a page that has its address: bit 0 of the code is set
-abbrev pub IsFaultOfPage : Touch → Type 0
-IsFaultOfPage touch = touch.answer ≡ Fault (fault_code true touch.mode touch.access)
-
--- the touch is answered as after some entries, and from these on to some that are allowed rights were added alone: a processor may fault once more
--- by what it kept
-pub record IsKeptFrom (start : Space) (trace : Recording) (touch : Touch) (m n : ℕ) : Type 0 where
-  pub allowed : IsAllowedPrefix start trace touch n
-  pub before : m ≤ n
-  pub widens : OnlyWidens start trace touch.address m n
-  pub answered : IsAnsweredAt start trace touch m
-
--- the touch faults by rights that were kept while others were added
-abbrev pub IsFaultOfKept : Space → Recording → Touch → Type 0
-IsFaultOfKept start trace touch = IsFaultOfPage touch × (m : ℕ) × (n : ℕ) × IsKeptFrom start trace touch m n
-
--- a right touch: it is answered as after some prefix that is allowed, or faults by rights that were kept, or by a table that lags
+-- a right touch: it is answered as after some prefix that is allowed, or faults by a table that lags
 abbrev pub IsRightTouch : Space → Recording → Touch → Type 0
-IsRightTouch start trace touch = IsAnsweredInTime start trace touch ⊎ (IsFaultOfKept start trace touch ⊎ IsFaultOfLagging start trace touch)
+IsRightTouch start trace touch = IsAnsweredInTime start trace touch ⊎ IsFaultOfLagging start trace touch
 
 -- a touch behind so many events and entries: at a cut all replicas have caught up
 abbrev pub touch_behind : ℕ → ℕ → Touch → Touch
@@ -128,7 +126,7 @@ abbrev pub LagsInNothing : Space → Recording → Touch → Type 0
 LagsInNothing start trace touch = IsFaultOfNone touch → (place : ℕ) → ChangesLook start trace touch.address place
     → IsAnsweredBefore trace place touch.made → place < touch.known
 
--- no update that only added rights to the page of the address comes just before an allowed prefix
-abbrev pub WidensNothing : Space → Recording → Touch → Type 0
-WidensNothing start trace touch = (m n : ℕ) → IsAllowedPrefix start trace touch n → m ≤ n → OnlyWidens start trace touch.address m n
-    → page_after start trace touch.address m ≡ page_after start trace touch.address n
+-- each prefix that is allowed has each update that changes how the address looks and was answered before the touch was made
+abbrev pub KeepsNothing : Space → Recording → Touch → Type 0
+KeepsNothing start trace touch = (n place : ℕ) → IsAllowedPrefix start trace touch n → ChangesLook start trace touch.address place
+    → IsAnsweredBefore trace place touch.made → place < n

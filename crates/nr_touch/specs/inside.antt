@@ -1,19 +1,18 @@
 -- The insides of the search. Public clauses cite no more of them than how a page looks before a change (Changes), and an index that has each
 -- page of a space (Indexed).
+pub mod Alike
 pub mod Blocks
 pub mod Bounds
 pub mod Changes
 pub mod Columns
 pub mod Earlier
-pub mod Keeping
 pub mod Indexed
 pub mod Lefts
+pub mod Levels
 pub mod Lives
 pub mod Met
 pub mod Reached
 pub mod Sights
 pub mod Stays
-pub mod Tables
 pub mod Undo
 pub mod Walk
-pub mod Widened

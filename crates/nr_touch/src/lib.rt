@@ -1,40 +1,18 @@
 //! Touches: accesses that processors make through their TLBs, each compared with the moments that are still allowed.
 //!
-//! A TLB may keep how an address looked until the update that changed it is answered, which is when its flush is over; and it may
-//! lag for one page and not for another. So a touch is no linearizable read: it is right where it was answered as its address
-//! was at some moment that no flush had ended before it began.
+//! A TLB may keep a page until an update that took it away from the address is answered, which is when its flush is over, or one that
+//! took away what came after it. A map, and a protect that only adds rights, flush nothing. A TLB may lag for one page and not for another.
+//! So a touch is no linearizable read: it is right where it was answered as its address was at some moment that is still allowed.
 #![tactic(auto)]
 
-mod beside;
-mod between;
-mod block;
-mod bounds;
-mod change;
-mod changed;
-mod history;
-mod index;
+mod changes;
 pub mod laws;
-mod lives;
-mod looks;
-mod meeting;
-mod quiet;
-mod release;
 mod releases;
-mod replay;
-mod search;
-mod seen;
-mod sights;
-mod stale;
-mod stays;
-mod stretches;
-mod tail;
-mod touch;
-mod undo;
-mod widened;
+mod touches;
 
-pub use beside::touches_beside;
-pub use release::Release;
-pub use releases::reached;
-pub use stale::{Followed, follow};
-pub use tail::Tail;
-pub use touch::Touch;
+pub use releases::reaching::reached;
+pub use releases::release::Release;
+pub use touches::beside::touches_beside;
+pub use touches::stale::{Followed, follow};
+pub use touches::tail::Tail;
+pub use touches::touch::Touch;

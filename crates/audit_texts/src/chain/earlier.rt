@@ -111,5 +111,5 @@ pub(crate) fn earlier_words(looks: &[Answer]) -> &'static str
     if looks.is_empty() {
         return "";
     }
-    " Nor does it in what earlier segments leave, whose updates were never answered."
+    " Nor does it in what earlier segments leave."
 }

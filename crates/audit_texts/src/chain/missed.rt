@@ -1,17 +1,16 @@
-//! What a stale touch should have seen, after which entries its answer would be right, and what took away rights that may be kept.
+//! What a stale touch should have seen, what was open then or called later, and after which entries its answer would be right.
 
 ghost use Rattle.std.specs.Prelude.{◌≡◌, IfOk, OnOk, string_bytes};
 ghost use Rattle.serde_json.specs.View.{view};
-ghost use Rattle.audit_texts.specs.ChainEvidence.{kept_parts, missed_parts, seen_parts};
-ghost use Rattle.audit_texts.specs.NearbyText.{missed_data, missed_lines};
+ghost use Rattle.audit_texts.specs.ChainEvidence.{missed_parts, seen_parts};
+ghost use Rattle.audit_texts.specs.NearbyText.{later_line, missed_data, missed_lines, open_data, open_lines};
 ghost use Rattle.audit_texts.specs.Parts.{put_all};
 
-use crate::chain::releases::put_away;
-use crate::fact_json::{call_value, reply_value};
-use crate::fact_text::{call_line, reply_line};
+use crate::fact_json::{call_value, reply_value, taken_value};
+use crate::fact_text::{call_line, own_line, reply_line};
 use crate::output::Output;
 use crate::parts::{Part, Says};
-use nr_explain::{Kept, MissedUpdate, SegmentEvidence, StaleTouch};
+use nr_explain::{MissedUpdate, OpenUpdate, PlacedUpdate, SegmentEvidence, StaleTouch};
 use serde_json::{Map, Value, put};
 use std::alloc::{AllocError, Global};
 
@@ -53,13 +52,57 @@ pub(crate) fn missed_value(alloc: Global, missed: Option<MissedUpdate>) -> Resul
     }
 }
 
-/// Puts which update a touch should have seen, and after which entries its answer would be right.
+/// The lines of an update that was still open then, if there is one.
+#[tactic(auto, unfolding(crate::specs::NearbyText::open_lines))]
+pub(crate) fn open_lines(alloc: Global, found: Option<OpenUpdate>) -> Result<String, AllocError>
+    ensures { IfOk result (λ text. string_bytes text ≡ open_lines found) }
+{
+    match found {
+        None => String::from_str(alloc, ""),
+        Some(found) => {
+            let place = found.update.place;
+            let call = call_line(alloc, found.update.call)?;
+            let reply = own_line(alloc, found.reply)?;
+            format!(in alloc; "still open then: place {place}, {call}{reply}")
+        }
+    }
+}
+
+/// An update that was still open then, or null.
+pub(crate) fn open_value(alloc: Global, found: Option<OpenUpdate>) -> Result<Value, AllocError>
+    ensures { IfOk result (λ value. view value ≡ open_data found) }
+{
+    match found {
+        None => Ok(Value::Null),
+        Some(found) => taken_value(alloc, found),
+    }
+}
+
+/// The line of an update that was called later, if there is one.
+#[tactic(auto, unfolding(crate::specs::NearbyText::later_line))]
+pub(crate) fn later_line(alloc: Global, update: Option<PlacedUpdate>) -> Result<String, AllocError>
+    ensures { IfOk result (λ text. string_bytes text ≡ later_line update) }
+{
+    match update {
+        None => String::from_str(alloc, ""),
+        Some(update) => {
+            let place = update.place;
+            let call = call_line(alloc, update.call)?;
+            format!(in alloc; "called later: place {place}, {call}")
+        }
+    }
+}
+
+/// Puts which update a touch should have seen, which was open then, which was called later, and after which entries its answer would be
+/// right.
 #[tactic(auto, unfolding(crate::specs::ChainEvidence::seen_parts))]
 fn put_seen<O: Output>(out: &mut O, alloc: Global, touch: &StaleTouch) -> Result<(), AllocError>
     ensures { OnOk result (O.held out.new ≡ put_all (seen_parts touch.now) (O.held out.old)) }
 {
     let parts = [
         Part::InBoth("missed", Says::Missed(touch.missed)),
+        Part::InBoth("open", Says::Open(touch.still_open)),
+        Part::InBoth("later", Says::Later(touch.later)),
         Part::Words("right after: "),
         Part::InBoth("right", Says::Right(touch.right)),
         Part::Words("\n"),
@@ -67,28 +110,8 @@ fn put_seen<O: Output>(out: &mut O, alloc: Global, touch: &StaleTouch) -> Result
     out.put_all(alloc, &parts)
 }
 
-/// Puts which update took away rights that may be kept, of a fault of a page.
-#[tactic(auto, unfolding(crate::specs::ChainEvidence::kept_parts))]
-fn put_kept<O: Output>(out: &mut O, alloc: Global, kept: Option<Kept>) -> Result<(), AllocError>
-    ensures { OnOk result (O.held out.new ≡ put_all (kept_parts kept) (O.held out.old)) }
-{
-    match kept {
-        Some(kept) => put_away(out, alloc, kept.taken),
-        None => out.put_all(alloc, &[]),
-    }
-}
-
-#[tactic(auto, unfolding(crate::specs::ChainEvidence::missed_parts))]
-fn put_touch<O: Output>(out: &mut O, alloc: Global, touch: &StaleTouch) -> Result<(), AllocError>
-    ensures { OnOk result (O.held out.new
-        ≡ put_all (missed_parts (SegmentEvidence.Stale touch.now)) (O.held out.old)) }
-{
-    put_seen(out, alloc, touch)?;
-    put_kept(out, alloc, touch.kept)
-}
-
-/// Puts which update a stale touch should have seen, after which entries its answer would be right, and what took away rights that may be
-/// kept.
+/// Puts which update a stale touch should have seen, which was open then, which was called later, and after which entries its answer would
+/// be right.
 #[tactic(auto, unfolding(crate::specs::ChainEvidence::missed_parts, crate::specs::Parts::put_all))]
 pub(crate) fn put_missed<O: Output>(
     out: &mut O,
@@ -98,7 +121,7 @@ pub(crate) fn put_missed<O: Output>(
     ensures { OnOk result (O.held out.new ≡ put_all (missed_parts shown.now) (O.held out.old)) }
 {
     match shown {
-        SegmentEvidence::Stale(touch) => put_touch(out, alloc, touch),
+        SegmentEvidence::Stale(touch) => put_seen(out, alloc, touch),
         _ => out.put_all(alloc, &[]),
     }
 }

@@ -11,7 +11,7 @@ use crate::answer::answer_text;
 use crate::chain::sentence::address_text;
 use crate::output::Output;
 use crate::parts::{Part, Says};
-use nr_explain::{Leading, Reach, RecordedCall, RecordedReply, TakenAway, WhyWrong};
+use nr_explain::{Leading, OpenUpdate, Reach, RecordedCall, RecordedReply, WhyWrong};
 use std::alloc::{AllocError, Global};
 use vs_types::Answer;
 
@@ -100,10 +100,10 @@ fn put_taken_earlier<O: Output>(out: &mut O, alloc: Global) -> Result<(), AllocE
 
 /// Puts the update that takes something away, or that none of the segment does.
 #[tactic(auto, unfolding(crate::specs::ChainReleases::away_parts))]
-pub(crate) fn put_away<O: Output>(
+fn put_away<O: Output>(
     out: &mut O,
     alloc: Global,
-    taken: Option<TakenAway>,
+    taken: Option<OpenUpdate>,
 ) -> Result<(), AllocError>
     ensures { OnOk result (O.held out.new ≡ put_all (away_parts taken) (O.held out.old)) }
 {
@@ -170,7 +170,7 @@ fn answered_words(alloc: Global, reply: Option<RecordedReply>) -> Result<String,
 
 /// That an update takes it away, and how that is answered.
 #[tactic(auto, unfolding(crate::specs::ChainReleases::away_words))]
-fn away_words(alloc: Global, taken: TakenAway) -> Result<String, AllocError>
+fn away_words(alloc: Global, taken: OpenUpdate) -> Result<String, AllocError>
     ensures { IfOk result (λ text. string_bytes text ≡ away_words taken) }
 {
     let call = taken.update.call.event;

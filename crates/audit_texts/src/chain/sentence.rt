@@ -2,7 +2,7 @@
 
 ghost use Rattle.std.specs.Prelude.{◌≡◌, IfOk, string_bytes};
 ghost use Rattle.vs_text.specs.Words.{hexadecimal};
-ghost use Rattle.audit_texts.specs.ChainSentence.{back_words, bad_segment_sentence, kept_words, limit_words, segment_reason};
+ghost use Rattle.audit_texts.specs.ChainSentence.{bad_segment_sentence, limit_words, segment_reason};
 ghost use Rattle.audit_texts.specs.ChainSentence.{segment_sentence, stale_sentence};
 ghost use Rattle.audit_texts.specs.ChainSentence.{start_beyond_sentence, start_differs_sentence};
 ghost use Rattle.audit_texts.specs.ChainSentence.{start_stray_sentence, window_text};
@@ -16,9 +16,7 @@ use crate::sentence::{
 };
 use crate::text::walk_words;
 use crate::units::bytes_text;
-use nr_explain::{
-    BadUnit, Kept, Lag, SegmentEvidence, StaleTouch, StartBeyond, StartDiffers, TakenAway, fewest,
-};
+use nr_explain::{BadUnit, Lag, SegmentEvidence, StaleTouch, StartBeyond, StartDiffers, fewest};
 use nr_trace::Format;
 use std::alloc::{AllocError, Global};
 
@@ -98,33 +96,6 @@ fn limit_words(lag: Option<Lag>) -> &'static str
     }
 }
 
-/// That rights which were kept don't make a fault of a page right: which update took them away.
-#[tactic(auto, unfolding(crate::specs::ChainSentence::back_words))]
-fn back_words(alloc: Global, taken: Option<TakenAway>) -> Result<String, AllocError>
-    ensures { IfOk result (λ text. string_bytes text ≡ back_words taken) }
-{
-    match taken {
-        None => String::from_str(alloc, " Nor is it a fault by rights that were kept."),
-        Some(taken) => {
-            let call = taken.update.call.event;
-            format!(in alloc;
-                " Nor is it a fault by rights that were kept: call {call} did more than add rights."
-            )
-        }
-    }
-}
-
-/// So it is said of a fault of a page.
-#[tactic(auto, unfolding(crate::specs::ChainSentence::kept_words))]
-fn kept_words(alloc: Global, kept: Option<Kept>) -> Result<String, AllocError>
-    ensures { IfOk result (λ text. string_bytes text ≡ kept_words kept) }
-{
-    match kept {
-        None => Ok(String::new(alloc)),
-        Some(kept) => back_words(alloc, kept.taken),
-    }
-}
-
 fn stale_sentence(alloc: Global, touch: &StaleTouch) -> Result<String, AllocError>
     ensures { IfOk result (λ text. string_bytes text ≡ stale_sentence touch.now) }
 {
@@ -133,9 +104,8 @@ fn stale_sentence(alloc: Global, touch: &StaleTouch) -> Result<String, AllocErro
     let limit = limit_words(touch.lag);
     let window = window_text(alloc, fewest(touch.first, touch.lag), touch.last)?;
     let earlier = earlier_words(&touch.earlier);
-    let kept = kept_words(alloc, touch.kept)?;
     format!(in alloc;
-        "Touch {call} was answered `{told}`, but {limit}{window}, and after none of these its address looks so.{earlier}{kept}"
+        "Touch {call} was answered `{told}`, but {limit}{window}, and after none of these its address looks so.{earlier}"
     )
 }
 

@@ -1,5 +1,5 @@
 -- What is found of a start, and the touches of a segment as a list. No public clause cites this file.
-use Rattle.std.specs.Prelude.{◌≡◌, ℕ, ◌+◌, ◌<◌, ◌≤◌, Bool, List, length, slice_get, true, false, Option, Some, None, All, Contains, IsTrue}
+use Rattle.std.specs.Prelude.{◌≡◌, ◌⊎◌, ℕ, ◌+◌, ◌<◌, ◌≤◌, Bool, List, [], length, slice_get, true, false, Option, Some, None, All, Contains, IsTrue}
 use Rattle.std.specs.List.{AllPairs}
 use Rattle.vs_types.specs.Page.{bytes_of, covers, IsPage}
 use Rattle.vs_types.specs.Space.{Space}
@@ -15,13 +15,13 @@ use Rattle.nr_trace.specs.Recording.{IsRecording, Recording}
 use Rattle.nr_trace.specs.Calls.{operation_of, Answers, IsTouch}
 use Rattle.nr_trace.specs.declared.event.Event.{Event}
 use Rattle.nr_trace.specs.declared.event.Event.TheVariants as events
-use Rattle.nr_touch.specs.declared.release.Release.{Release}
-use Rattle.nr_touch.specs.declared.touch.Touch.{Touch}
+use Rattle.nr_touch.specs.declared.releases.release.Release.{Release}
+use Rattle.nr_touch.specs.declared.touches.touch.Touch.{Touch}
 use Rattle.nr_trace.specs.declared.fault.Fault.{Fault}
 use Rattle.nr_trace.specs.declared.fault.Fault.TheVariants.{StartMissing, StartShared, StartReserved, StartStray, StartBeyond, StartDiffers}
 use Rattle.nr_joined.specs.Run.{Run}
 use Rattle.nr_touch.specs.Tails.{IsTailOf}
-use Rattle.nr_touch.specs.declared.tail.Tail.{Tail}
+use Rattle.nr_touch.specs.declared.touches.tail.Tail.{Tail}
 use Rattle.nr_audit.specs.Start.{HoldsOfStart}
 use Rattle.nr_audit.specs.Releases.{HasRelease, IsWrongAt}
 use Rattle.nr_audit.specs.Touches.{known_when, HasTouch, IsStale}
@@ -119,12 +119,16 @@ IsPlacePlain segment place = (call : ℕ) → slice_get segment.log place ≡ So
 abbrev pub ArePlacesPlain : Recording → Type 0
 ArePlacesPlain segment = (place : ℕ) → place < length segment.log → IsPlacePlain segment place
 
--- nothing is left so far, the segment has no touch, release or protect, and nothing is left by it
-pub record IsQuiet (segment : Recording) (tail : Tail) : Type 0 where
+-- nothing is left so far, and nothing by the segment: each call of its log is answered, and none gives a page other rights
+pub record LeavesNothing (segment : Recording) (tail : Tail) : Type 0 where
   pub none : IsTailOf None tail
-  pub untouched : HasSomeTouch segment → ⊥
   pub answered : ArePlacesAnswered segment
   pub plain : ArePlacesPlain segment
+
+-- the segment has no touch or release, and leaves what was left so far: its log is empty, or nothing was left and nothing is by it
+pub record IsQuiet (segment : Recording) (tail : Tail) : Type 0 where
+  pub untouched : HasSomeTouch segment → ⊥
+  pub leaves : (segment.log ≡ []) ⊎ LeavesNothing segment tail
   pub in_range : IsRecording segment
 
 -- the release that is made by an event, of this number, if it is one; it is answered by nothing but Done, or not

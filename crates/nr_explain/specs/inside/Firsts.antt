@@ -1,5 +1,5 @@
 -- The first fault of a segment, by the space before it alone. No public clause cites this file.
-use Rattle.std.specs.Prelude.{◌≡◌, ℕ, ◌↔◌, List, Contains, Option, Some, ⊤}
+use Rattle.std.specs.Prelude.{◌≡◌, ℕ, ◌↔◌, Bool, List, Contains, Option, Some, ⊤}
 use Rattle.vs_types.specs.Space.{Space}
 use Rattle.vs_types.specs.declared.answer.Answer.{Answer}
 use Rattle.nr_trace.specs.Recording.{Recording}
@@ -10,13 +10,14 @@ use Rattle.nr_trace.specs.declared.fault.Fault.TheVariants.{StartMissing, StartS
 use Rattle.nr_touch.specs.Looks.{IsLookLeft}
 use Rattle.nr_touch.specs.Releases.{IsLeastReached, IsWrongRelease}
 use Rattle.nr_touch.specs.Tails.{GoesOn}
-use Rattle.nr_touch.specs.declared.release.Release.{Release}
-use Rattle.nr_touch.specs.declared.tail.Left.{Left}
-use Rattle.nr_touch.specs.declared.touch.Touch.{Touch}
+use Rattle.nr_touch.specs.declared.releases.release.Release.{Release}
+use Rattle.nr_touch.specs.declared.touches.tail.Left.{Left}
+use Rattle.nr_touch.specs.declared.touches.touch.Touch.{Touch}
 use Rattle.nr_audit.specs.Start.{first_space, BeginsRight, HasStartFault}
 use Rattle.nr_audit.specs.Releases.{HasRelease}
 use Rattle.nr_audit.specs.Touches.{HasTouch}
-use Rattle.nr_explain.specs.ChainEvidence.{release_at}
+use Rattle.nr_explain.specs.ChainEvidence.{found_page, release_at}
+use Rattle.nr_explain.specs.ChainFacts.{is_mapped}
 use Rattle.nr_explain.specs.Facts.{asked_address}
 use Rattle.nr_explain.specs.Progress.{ChainState, Seen, run_in, IsSeenOf}
 use Rattle.nr_explain.specs.inside.Reading.{left_seen, space_seen}
@@ -71,9 +72,11 @@ IsToShow seen segment (Reachable call) =
     BeginsRight (space_seen seen) segment × IsReleaseToShow seen (first_space (space_seen seen) segment) segment call
 IsToShow seen segment fault = IsFirstOver (space_seen seen) segment fault
 
--- what shows a stale touch has just the looks that the changes leave, where it may be answered from no entry of its segment
-abbrev pub AreEarlierLeft : List Left → ℕ → ℕ → List Answer → Type 0
-AreEarlierLeft changes address first looks = (look : Answer) → Contains looks look ↔ ((first ≡ 0) × IsLookLeft changes address look)
+-- what shows a stale touch has just the looks that the changes leave, with a page or without one, as the touch found it, where it may be answered from no
+-- entry of its segment
+abbrev pub AreEarlierLeft : List Left → ℕ → ℕ → Bool → List Answer → Type 0
+AreEarlierLeft changes address first with_page looks =
+    (look : Answer) → Contains looks look ↔ ((first ≡ 0) × (is_mapped look ≡ with_page) × IsLookLeft changes address look)
 
 -- an address that leads somewhere behind the segments before has such a look
 abbrev pub IsLeftAs : List Left → ℕ → Answer → Leading → Type 0
@@ -99,5 +102,5 @@ ShowsReachLeft seen start segment call (Reached reply reach) =
 abbrev pub ShowsLeft : Option Seen → Space → Recording → SegmentEvidence → Type 0
 ShowsLeft seen start segment (evidence.Reachable wrong) = ShowsReachLeft seen start segment wrong.call wrong.why
 ShowsLeft seen start segment (evidence.Stale stale) =
-    AreEarlierLeft (left_seen seen) (asked_address stale.call.request) stale.first stale.earlier.items
+    AreEarlierLeft (left_seen seen) (asked_address stale.call.request) stale.first (found_page stale.lag) stale.earlier.items
 ShowsLeft seen start segment shown = ⊤

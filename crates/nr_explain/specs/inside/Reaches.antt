@@ -1,25 +1,25 @@
 -- From where the memory of a release may be reached, as it is looked for. No public clause cites this file.
-use Rattle.std.specs.Prelude.{◌≡◌, ◌≢◌, ℕ, ◌+◌, ◌<◌, ◌≤◌, IfSome, length, List, Contains, Option, Some, None}
+use Rattle.std.specs.Prelude.{◌≡◌, ◌≢◌, ℕ, ◌+◌, ◌<◌, ◌≤◌, true, IfSome, List, Contains, Option, Some, None}
 use Rattle.vs_types.specs.Space.{Space}
 use Rattle.vs_types.specs.declared.answer.Answer.{Answer}
 use Rattle.vs_types.specs.declared.answer.Answer.TheVariants.{Done}
 use Rattle.nr_trace.specs.Recording.{Recording}
 use Rattle.nr_touch.specs.Looks.{IsLookLeft}
-use Rattle.nr_touch.specs.declared.tail.Left.{Left}
+use Rattle.nr_touch.specs.declared.touches.tail.Left.{Left}
 use Rattle.nr_explain.specs.ChainEvidence.{IsReach}
 use Rattle.nr_explain.specs.ChainFacts.{IsTakenFrom, LeadsInto}
 use Rattle.nr_explain.specs.Facts.{looks_from, IsFirstReplyTo}
 use Rattle.nr_explain.specs.Progress.{Seen}
 use Rattle.nr_explain.specs.inside.Firsts.{IsLeastSeen, IsReachLeft}
 use Rattle.nr_explain.specs.inside.Reading.{left_seen}
-use Rattle.nr_explain.specs.inside.Windows.{IsWindowBelow}
+use Rattle.nr_explain.specs.inside.Windows.{IsWindowOf}
 use Rattle.nr_explain.specs.declared.chain.evidence.Leading.TheVariants.{Within, Earlier}
 use Rattle.nr_explain.specs.declared.chain.evidence.Moment.{Moment}
 use Rattle.nr_explain.specs.declared.chain.evidence.Reach.{Reach}
-use Rattle.nr_explain.specs.declared.chain.evidence.TakenAway.{TakenAway}
+use Rattle.nr_explain.specs.declared.chain.evidence.OpenUpdate.{OpenUpdate}
 use Rattle.nr_explain.specs.declared.chain.evidence.WhyWrong.{WhyWrong}
 use Rattle.nr_explain.specs.declared.chain.evidence.WhyWrong.TheVariants.{Otherwise, Reached}
-use Rattle.nr_explain.specs.declared.chain.touches.Window.{Window}
+use Rattle.nr_explain.specs.declared.chain.windows.Window.{Window}
 use Rattle.nr_explain.specs.declared.trace.evidence.Given.{Given}
 use Rattle.nr_explain.specs.declared.trace.evidence.RecordedReply.{RecordedReply}
 
@@ -41,7 +41,7 @@ FindsLeading start segment address first last given found = FindsLeadingBelow st
 
 -- how an address leads there after so many entries, and what takes that away
 pub record IsReachWithin (start : Space) (segment : Recording) (address : ℕ) (window : Window) (given : Given) (moment : Moment) (reach : Reach) : Type 0 where
-  pub taken : Option TakenAway
+  pub taken : Option OpenUpdate
   pub is : reach ≡ record {
     address = address;
     first = window.first;
@@ -79,7 +79,7 @@ FindsBefore changes address window given (Some reach) = IsReachBefore changes ad
 -- from the address no access that is made and answered at the event finds the memory: neither in its segment nor by what is left
 pub record LeadsNowhere (changes : List Left) (start : Space) (segment : Recording) (event : ℕ) (given : Given) (address : ℕ) : Type 0 where
   pub window : Window
-  pub is : IsWindowBelow start segment address event event (length segment.log) window
+  pub is : IsWindowOf start segment address event event true window
   pub within : NothingLeads start segment address window.first (window.last + 1) given
   pub earlier : window.first ≡ 0 → (look : Answer) → IsLookLeft changes address look → LeadsInto given look → ⊥
 

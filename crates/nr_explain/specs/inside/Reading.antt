@@ -10,9 +10,9 @@ use Rattle.nr_trace.specs.declared.version.Form.TheVariants as forms
 use Rattle.nr_audit.specs.Start.{first_space, start_space, BeginsRight}
 use Rattle.nr_audit.specs.declared.past.Past.{Past}
 use Rattle.nr_joined.specs.Run.{Run, end_of}
-use Rattle.nr_touch.specs.Tails.{AreSound, IsTailOfRun}
-use Rattle.nr_touch.specs.declared.tail.Left.{Left}
-use Rattle.nr_touch.specs.declared.tail.Tail.{Tail}
+use Rattle.nr_touch.specs.Tails.{AreSound, IsSoundTail, IsTailOfRun}
+use Rattle.nr_touch.specs.declared.touches.tail.Left.{Left}
+use Rattle.nr_touch.specs.declared.touches.tail.Tail.{Tail}
 use Rattle.vs_types.specs.Config.{Layout}
 use Rattle.vs_types.specs.Space.{Space, pages}
 use Rattle.nr_trace.specs.declared.fault.Fault.{Fault}
@@ -81,11 +81,12 @@ abbrev pub IsShownSeen : Option Seen → Recording → Fault → SegmentEvidence
 IsShownSeen seen segment fault shown =
     IsShown (began_seen seen segment) (space_seen seen) (first_space (space_seen seen) segment) segment fault shown
 
--- what the judge takes of the segments so far is what is kept of them
+-- what the judge takes of the segments so far is what is kept of them, and has room
 pub record IsTwice (came : Progress) (past : Past) : Type 0 where
   pub space : past.space ≡ came.space
   pub left : past.tail.changes.items ≡ came.tail.changes.items
   pub tail : (run : Run) → came.space.space ≡ end_of run → IsTailOfRun run came.tail → IsTailOfRun run past.tail
+  pub sound : IsSoundTail past.tail
 
 -- what is kept of what a segment leaves: the same changes, as behind the same runs
 pub record IsCopyOf (tail copied : Tail) : Type 0 where

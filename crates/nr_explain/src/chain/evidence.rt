@@ -88,12 +88,21 @@ pub struct MissedUpdate {
     pub reply: RecordedReply,
 }
 
+/// An update that wasn't answered when a touch or a release was made.
+#[derive(Clone, Copy, Debug, PartialEq, Eq)]
+pub struct OpenUpdate {
+    pub update: PlacedUpdate,
+    /// The first reply to it, if there is one.
+    pub reply: Option<RecordedReply>,
+}
+
 /// A touch that is answered as its address was at no moment that was still allowed.
 #[derive(Debug, Drop)]
 pub struct StaleTouch {
     pub call: RecordedCall,
     pub reply: RecordedReply,
-    /// The fewest entries of its segment's log after which it may be answered.
+    /// The fewest entries of its segment's log after which it may be answered. Where it found no page, they have each update that changed
+    /// how its address looks and was answered before it was made; else each of these that took away from the address.
     pub first: u32,
     /// The most. No moment is allowed where they are fewer than the fewest.
     pub last: u32,
@@ -102,39 +111,24 @@ pub struct StaleTouch {
     pub lag: Option<Lag>,
     /// How its address looked at the first of these moments, and then after each update that changed that, up to the last.
     pub looks: Vec<Moment>,
-    /// Where the fewest is none, how its address may still be found to look behind the segments before, too: as before updates that
-    /// their segments never answered. Else none.
+    /// Where the fewest is none, how its address may still be found to look behind the segments before, too: with a page, or without one,
+    /// as the touch found it. Else none.
     pub earlier: Vec<Answer>,
-    /// The last update of its segment that changed how its address looks and was answered before the touch was made, if there is one. The
-    /// touch should have seen it.
+    /// The last one of the fewest entries, if there is one: an update that the touch should have seen.
     pub missed: Option<MissedUpdate>,
+    /// The first update among them that ends what the touch found, and wasn't answered when it was made, if there is one.
+    pub still_open: Option<OpenUpdate>,
+    /// The update behind the most entries, which was made after the touch was answered, if the answer is the space's behind it.
+    pub later: Option<PlacedUpdate>,
     /// After how many entries of its segment's log the space gives its answer: nearest below the fewest, and nearest above the most.
     pub right: RightAfter,
-    /// Where the touch found a page that doesn't allow it, what ended that it may fault so by rights that were kept.
-    pub kept: Option<Kept>,
-}
-
-/// What ended that a touch may fault by rights that were kept while others were added.
-#[derive(Clone, Copy, Debug, PartialEq, Eq)]
-pub struct Kept {
-    /// The first update that did more than add rights to the page, from the last entries below the fewest on after which the space gives
-    /// the touch's answer. `None` where there are no such entries, or no such update.
-    pub taken: Option<TakenAway>,
-}
-
-/// An update that takes away what an address had before it: that it leads into some memory, or rights that may be kept.
-#[derive(Clone, Copy, Debug, PartialEq, Eq)]
-pub struct TakenAway {
-    pub update: PlacedUpdate,
-    /// The first reply to it, if there is one.
-    pub reply: Option<RecordedReply>,
 }
 
 /// When an address leads into some memory.
 #[derive(Clone, Copy, Debug, PartialEq, Eq)]
 pub enum Leading {
     /// After so many entries of its segment's log, the most that are allowed; and what takes that away from then on, if something does.
-    Within(u32, Option<TakenAway>),
+    Within(u32, Option<OpenUpdate>),
     /// Behind the segments before: as before an update of them that was never answered.
     Earlier,
 }

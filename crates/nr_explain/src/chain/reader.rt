@@ -41,7 +41,7 @@ impl Model for ChainReader {
     ghost use Rattle.std.specs.FinMap as finite;
     ghost use Rattle.std.specs.Ordering.{nat_cmp};
     ghost use Rattle.vs_types.specs.contracts.page.Page as page_contract;
-    ghost use Rattle.nr_touch.specs.contracts.tail.Tail as tail_contract;
+    ghost use Rattle.nr_touch.specs.contracts.touches.tail.Tail as tail_contract;
     ghost use Rattle.nr_explain.specs.Progress.{ReaderState};
     ghost use Rattle.nr_explain.specs.inside.Reading.{all_states, IsReading};
 

@@ -17,12 +17,13 @@ ghost use Rattle.nr_explain.specs.inside.Reaches.{FindsBefore, FindsLeading, Fin
 ghost use Rattle.nr_explain.specs.inside.Reaches.{IsLeastReach, IsReachWithin, IsWhyOf};
 ghost use Rattle.nr_explain.specs.inside.Reading.{all_states, left_seen, FitsSegment, HasSoundTail};
 
-use crate::chain::evidence::{Leading, Moment, Reach, TakenAway, WhyWrong, WrongRelease};
+use crate::chain::evidence::{Leading, Moment, OpenUpdate, Reach, WhyWrong, WrongRelease};
 use crate::chain::origins::is_same;
 use crate::chain::progress::Progress;
-use crate::chain::touches::{Window, looks_before, window_of};
+use crate::chain::touches::looks_before;
+use crate::chain::windows::{Window, window_of};
 use crate::search::events::call_at;
-use crate::search::replies::reply_to;
+use crate::search::replies::{replies, reply_to};
 use crate::search::spaces::{apply_place, space_from, update_at};
 use crate::trace::evidence::{Given, RecordedReply};
 use nr_audit::copy;
@@ -104,7 +105,7 @@ fn taken_from(
     address: u64,
     given: Given,
     entries: u32,
-) -> Result<Option<TakenAway>, Memory>
+) -> Result<Option<OpenUpdate>, Memory>
     requires start { start ≡ space_of segment.now.layout start.space }
     requires within { entries ≤ length segment.now.log }
     requires leads { LeadsInto given (looks_from start.space segment.now address entries) }
@@ -117,7 +118,7 @@ fn taken_from(
         if !leads_into(given, space.resolve(address)) {
             let update = update_at(segment, place);
             let reply = reply_to(segment, update.call.event);
-            return Ok(Some(TakenAway { update, reply }));
+            return Ok(Some(OpenUpdate { update, reply }));
         }
     }
     Ok(None)
@@ -217,7 +218,7 @@ fn reach_before(
 }
 
 /// How an address leads into the memory of a release that is made at an event, where the segment begins with this space; or `None`.
-/// Allocates memory for a copy of the space at a time.
+/// Allocates a table of four bytes for each event, and memory for a copy of the space at a time.
 fn reach_from(
     alloc: Global,
     last: &Option<Progress>,
@@ -232,8 +233,17 @@ fn reach_from(
     ensures { IfOk result (FindsReach (left_seen (all_states last.now)) first.now.space segment.now
         event given address) }
 {
+    let replies = replies(alloc, segment)?;
     let space = copy(alloc, segment.layout().tables(), first)?;
-    let window = window_of(segment, space, address, event, event)?;
+    let window = window_of(
+        segment,
+        replies.as_slice(),
+        space,
+        address,
+        event,
+        event,
+        true,
+    )?;
     let own = reach_within(alloc, segment, first, address, window, given)?;
     match own {
         Some(reach) => Ok(Some(reach)),

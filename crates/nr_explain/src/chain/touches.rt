@@ -1,113 +1,33 @@
 //! What shows a stale touch.
 
-ghost use Rattle.std.specs.Prelude.{◌≡◌, ◌≢◌, ◌<◌, ◌≤◌, ◌⊎◌, ◌↔◌, ℕ, IfOk, IfSome, IsTrue, false, length};
-ghost use Rattle.vs_types.specs.Space.{IsSpace, Space};
-ghost use Rattle.vs_types.specs.Step.{look};
+ghost use Rattle.std.specs.Prelude.{◌≡◌, ◌≢◌, ◌<◌, ◌≤◌, ◌⊎◌, ◌↔◌, ℕ, Bool, IfOk, IfSome, IsTrue, false, filter, length};
+ghost use Rattle.vs_types.specs.Space.{Space};
 ghost use Rattle.nr_audit.specs.Verdict.{space_of};
 ghost use Rattle.nr_touch.specs.Looks.{AreLooksLeft};
-ghost use Rattle.nr_touch.specs.Touches.{IsAnsweredBefore};
-ghost use Rattle.nr_explain.specs.ChainEvidence.{fewest, AreLooks, IsMissed, IsStaleTouch};
+ghost use Rattle.nr_explain.specs.ChainEvidence.{fewest, found_page, AreLooks, IsLater, IsMissed, IsOpenBefore, IsStaleTouch};
 ghost use Rattle.nr_explain.specs.ChainFacts.{IsFaultOfNoPage, IsLagOf};
 ghost use Rattle.nr_explain.specs.Facts.{asked_address};
 ghost use Rattle.nr_explain.specs.inside.Firsts.{AreEarlierLeft, IsTouchToShow};
 ghost use Rattle.nr_explain.specs.inside.Reading.{all_states, left_seen, space_seen, FitsSegment, HasSoundTail};
-ghost use Rattle.nr_explain.specs.inside.Windows.{HasReached, IsWindowBelow, Narrows};
+ghost use Rattle.nr_explain.specs.inside.Windows.{is_found, HasReached, IsWindowOf};
 
 use crate::calls::answers::asked_address;
-use crate::chain::evidence::{Lag, MissedUpdate, Moment, StaleTouch};
-use crate::chain::kept::kept_of;
+use crate::chain::evidence::{Lag, MissedUpdate, Moment, OpenUpdate, StaleTouch};
 use crate::chain::origins::is_same;
 use crate::chain::progress::Progress;
+use crate::chain::windows::{Window, is_mapped, window_of};
 use crate::search::events::call_at;
 use crate::search::known::known_at;
 use crate::search::nearest::nearest;
-use crate::search::replies::reply_to;
+use crate::search::replies::{replies, reply_to};
 use crate::search::spaces::{apply_place, update_at};
-use crate::trace::evidence::RecordedCall;
+use crate::trace::evidence::{PlacedUpdate, RecordedCall};
+use crate::trace::nearby::RightAfter;
 use nr_audit::copy;
 use nr_trace::Trace;
 use std::alloc::Global;
 use vs_plain::PlainSpace;
-use vs_plain::laws::pages_are_a_space;
 use vs_types::{Answer, Memory, Query, Request, fault_code};
-
-/// From how many entries of the log to how many a touch may be answered.
-#[derive(Clone, Copy)]
-pub(crate) struct Window {
-    pub(crate) first: u32,
-    pub(crate) last: u32,
-}
-
-/// Whether the update of a place is answered before an event.
-fn is_answered_before(segment: &Trace, place: u32, event: u32) -> bool
-    requires { place < length segment.now.log }
-    ensures { IsTrue result ↔ IsAnsweredBefore segment.now place event }
-{
-    match reply_to(segment, segment.log()[place as usize]) {
-        Some(reply) => reply.event < event,
-        None => false,
-    }
-}
-
-/// The window of a touch, of which these places are known, with one more that changes how its address looks.
-fn narrow(window: Window, segment: &Trace, place: u32, made: u32, answered: u32) -> Window
-    requires within { place < length segment.now.log }
-    ensures { Narrows segment.now place made answered window result }
-{
-    let log = segment.log();
-    let call = log[place as usize];
-    let first = if is_answered_before(segment, place, made) {
-        place + 1
-    } else {
-        window.first
-    };
-    let last = if call > answered {
-        window.last.min(place)
-    } else {
-        window.last
-    };
-    Window { first, last }
-}
-
-/// How an address looks in a space.
-pub(crate) fn look_of(space: &PlainSpace, address: u64) -> Answer
-    ensures looks { result ≡ look space.now.space address }
-    ensures is_space { IsSpace space.now.depth space.now.space }
-{
-    pages_are_a_space(space);
-    space.resolve(address)
-}
-
-/// From how many entries to how many a touch of an address may be answered that is made and answered at these events, where the
-/// segment begins with this space.
-pub(crate) fn window_of(
-    segment: &Trace,
-    start: PlainSpace,
-    address: u64,
-    made: u32,
-    answered: u32,
-) -> Result<Window, Memory>
-    requires { start ≡ space_of segment.now.layout start.space }
-    ensures { IfOk result (IsWindowBelow start.space segment.now address made answered
-        (length segment.now.log)) }
-{
-    let places = segment.log().len() as u32;
-    let mut space = start;
-    let mut look = look_of(&space, address);
-    let mut window = Window {
-        first: 0,
-        last: places,
-    };
-    for place in 0..places {
-        apply_place(segment, &mut space, place)?;
-        let then = look_of(&space, address);
-        if !is_same(look, then) {
-            window = narrow(window, segment, place, made, answered);
-        }
-        look = then;
-    }
-    Ok(window)
-}
 
 /// Whether a moment after so many entries, the first or a later one, is listed, with which an address looks so, as it looked so before.
 fn is_listed(first: u32, entries: u32, before: Answer, then: Answer) -> bool
@@ -169,21 +89,43 @@ pub(crate) fn looks_before(
     }
 }
 
-/// The same for a touch that may be answered from so few entries of its segment's log: where these are none.
+/// Whether a page covers an address that looks so, or none does, as is asked.
+fn is_found(look: Answer, with_page: bool) -> bool
+    ensures { result ≡ is_found with_page look }
+{
+    if with_page {
+        is_mapped(look)
+    } else {
+        !is_mapped(look)
+    }
+}
+
+/// The looks by which a page covers the address stay, or those by which none does.
+fn keep_found(looks: &mut Vec<Answer>, with_page: bool)
+    ensures { looks.new.items ≡ filter (is_found with_page) looks.old.items }
+{
+    looks.retain(|look| is_found(*look, with_page));
+}
+
+/// How the address of a touch that may be answered from so few entries of its segment's log, which finds a page, or none, may be found to
+/// look behind the segments before: in no way but where these are none. Allocates a list of these looks.
 fn earlier_looks(
     alloc: Global,
     last: &Option<Progress>,
     address: u64,
     first: u32,
+    with_page: bool,
 ) -> Result<Vec<Answer>, Memory>
     requires { IfSome last.now HasSoundTail }
-    ensures { IfOk result
-        (λ looks. AreEarlierLeft (left_seen (all_states last.now)) address first looks.items) }
+    ensures { IfOk result (λ looks. AreEarlierLeft (left_seen (all_states last.now)) address first
+        with_page looks.items) }
 {
     if first > 0 {
         return Ok(Vec::new(alloc));
     }
-    looks_before(alloc, last, address)
+    let mut looks = looks_before(alloc, last, address)?;
+    keep_found(&mut looks, with_page);
+    Ok(looks)
 }
 
 /// Whether an access that asks this would be answered so where no page has its address.
@@ -227,16 +169,17 @@ fn with_lag(window: Window, lag: Option<Lag>) -> Window
 {
     Window {
         first: fewest(window.first, lag),
-        last: window.last,
+        ..window
     }
 }
 
 /// The update that ends right before the window of a touch of an address that is made at this event, and its first reply.
 fn missed_update(segment: &Trace, first: u32) -> Option<MissedUpdate>
-    requires { (start : Space) × (address : ℕ) × (made : ℕ)
-        × HasReached start segment.now address made first }
-    ensures { (start : Space) (address made : ℕ) → HasReached start segment.now address made first
-        → IsMissed start segment.now address made first result }
+    requires { (start : Space) × (address : ℕ) × (made : ℕ) × (with_page : Bool)
+        × HasReached start segment.now address made with_page first }
+    ensures { (start : Space) (address made : ℕ) (with_page : Bool)
+        → HasReached start segment.now address made with_page first
+        → IsMissed start segment.now address made with_page first result }
 {
     if first == 0 {
         return None;
@@ -248,9 +191,40 @@ fn missed_update(segment: &Trace, first: u32) -> Option<MissedUpdate>
     }
 }
 
+/// The first update before the window of a touch that ends what it finds and isn't answered when it is made, and its first reply.
+fn open_update(segment: &Trace, window: Window) -> Option<OpenUpdate>
+    requires { (start : Space) × (address : ℕ) × (made : ℕ) × (answered : ℕ) × (with_page : Bool)
+        × IsWindowOf start segment.now address made answered with_page window }
+    ensures { (start : Space) (address made answered : ℕ) (with_page : Bool)
+        → IsWindowOf start segment.now address made answered with_page window
+        → IsOpenBefore start segment.now address made with_page window.first result }
+{
+    if window.still_open >= window.first {
+        return None;
+    }
+    let update = update_at(segment, window.still_open);
+    let reply = reply_to(segment, update.call.event);
+    Some(OpenUpdate { update, reply })
+}
+
+/// The update that ends the window of a touch and is made after that is answered, where the answer is right after more entries.
+fn later_update(segment: &Trace, window: Window, right: RightAfter) -> Option<PlacedUpdate>
+    requires window { (start : Space) × (address : ℕ) × (made : ℕ) × (answered : ℕ) × (with_page : Bool)
+        × IsWindowOf start segment.now address made answered with_page window }
+    requires right { IfSome right.behind (λ stretch. window.last < length segment.now.log) }
+    ensures { (start : Space) (address made answered : ℕ) (with_page : Bool)
+        → IsWindowOf start segment.now address made answered with_page window
+        → IsLater start segment.now address answered window.last right.behind result }
+{
+    match right.behind {
+        Some(_) => Some(update_at(segment, window.last)),
+        None => None,
+    }
+}
+
 /// A stale touch, where the segment begins with this space: from which moments it may be answered, how its address looked at these, which
-/// update it should have seen, after which entries its answer would be right, and what ended that it may fault by rights that were kept.
-/// Allocates memory for a copy of the space, and for others when that one is freed.
+/// update it should have seen, which was open then, which was made later, and after which entries its answer would be right. Allocates a
+/// table of four bytes for each event, memory for a copy of the space, and for others when that one is freed.
 pub(crate) fn stale_touch(
     alloc: Global,
     last: &Option<Progress>,
@@ -264,7 +238,8 @@ pub(crate) fn stale_touch(
     ensures event { IfOk result (λ stale. stale.call.event ≡ index) }
     ensures is { IfOk result (IsStaleTouch first.now.space segment.now) }
     ensures left { IfOk result (λ stale. AreEarlierLeft (left_seen (all_states last.now))
-        (asked_address stale.call.request) stale.first stale.earlier.items) }
+        (asked_address stale.call.request) stale.first (found_page stale.lag)
+        stale.earlier.items) }
 {
     let call = call_at(segment, index);
     let Some(reply) = reply_to(segment, index) else {
@@ -272,14 +247,25 @@ pub(crate) fn stale_touch(
     };
     let address = asked_address(call.request);
     let lag = lag_of(segment, &call, reply.answer);
+    let with_page = lag.is_none();
     let tables = segment.layout().tables();
+    let replies = replies(alloc, segment)?;
     let space = copy(alloc, tables, first)?;
-    let window = window_of(segment, space, address, index, reply.event)?;
+    let window = window_of(
+        segment,
+        replies.as_slice(),
+        space,
+        address,
+        index,
+        reply.event,
+        with_page,
+    )?;
     let again = copy(alloc, tables, first)?;
     let from = with_lag(window, lag);
     let looks = looks_in(alloc, segment, again, address, from)?;
-    let earlier = earlier_looks(alloc, last, address, window.first)?;
+    let earlier = earlier_looks(alloc, last, address, window.first, with_page)?;
     let missed = missed_update(segment, window.first);
+    let still_open = open_update(segment, window);
     let begun = copy(alloc, tables, first)?;
     let right = nearest(
         segment,
@@ -289,7 +275,7 @@ pub(crate) fn stale_touch(
         window.first,
         window.last,
     )?;
-    let kept = kept_of(alloc, segment, first, &call, &reply, window, right)?;
+    let later = later_update(segment, window, right);
     Ok(StaleTouch {
         call,
         reply,
@@ -299,7 +285,8 @@ pub(crate) fn stale_touch(
         looks,
         earlier,
         missed,
+        still_open,
+        later,
         right,
-        kept,
     })
 }

@@ -1,11 +1,11 @@
 //! How many answered calls of a trace were open while another one was.
 
-ghost use Rattle.std.specs.Prelude.{◌≡◌, ◌<◌, ◌≤◌, ◌↔◌, ◌⊎◌, IfOk, IsSomeAnd, IsTrue, length, replicate};
-ghost use Rattle.nr_touch.specs.inside.Changes.{AreReplies};
+ghost use Rattle.std.specs.Prelude.{◌≡◌, ◌<◌, ◌≤◌, ◌↔◌, ◌⊎◌, IfOk, IsSomeAnd, IsTrue};
 ghost use Rattle.nr_explain.specs.Meetings.{is_asked, overlapping};
 
+use crate::search::replies::replies;
 use nr_audit::request_of;
-use nr_trace::{Event, Trace};
+use nr_trace::Trace;
 use std::alloc::Global;
 use vs_types::Memory;
 
@@ -22,36 +22,6 @@ fn is_asked(trace: &Trace, call: u32) -> bool
     ensures { result ≡ is_asked trace.now call }
 {
     request_of(trace, call).is_some()
-}
-
-/// A table of so many events, of none of which a reply is known.
-fn no_replies(alloc: Global, rows: usize) -> Result<Vec<u32>, Memory>
-    ensures { IfOk result (λ table. table.items ≡ replicate rows 4294967295) }
-{
-    Ok(vec![in alloc; u32::MAX; rows]?)
-}
-
-/// By the index of each call the first event that answers it, or `u32::MAX` where there is none.
-fn replies(alloc: Global, trace: &Trace) -> Result<Vec<u32>, Memory>
-    ensures { IfOk result
-        (λ replies. AreReplies trace.now replies.items (length trace.now.events)) }
-{
-    let events = trace.events();
-    let mut replies = no_replies(alloc, events.len())?;
-    for (index, event) in events.iter().enumerate() {
-        match event.event() {
-            Event::Call { .. } => {}
-            Event::Touch { .. } => {}
-            Event::Release { .. } => {}
-            Event::Reply { call, .. } => {
-                let call = call as usize;
-                if call < replies.len() {
-                    replies[call] = replies[call].min(index as u32);
-                }
-            }
-        }
-    }
-    Ok(replies)
 }
 
 /// Whether the last call before one is answered, and has met an earlier call or is still open as that one is made.

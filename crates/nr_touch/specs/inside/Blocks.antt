@@ -4,7 +4,7 @@ use Rattle.vs_types.specs.declared.page.Page.{Page}
 use Rattle.vs_types.specs.declared.page.Size.{Size}
 use Rattle.vs_types.specs.declared.page.Size.TheVariants.{K4, M2, G1}
 use Rattle.nr_touch.specs.inside.Changes.{number_at}
-use Rattle.nr_touch.specs.declared.release.Release.{Release}
+use Rattle.nr_touch.specs.declared.releases.release.Release.{Release}
 
 -- the number of the memory of a size that has the physical address, as that in which a smaller page lies
 abbrev pub around : ℕ → Size → ℕ

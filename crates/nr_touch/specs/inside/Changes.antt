@@ -1,5 +1,5 @@
--- What an update does to one page, and the changes that the updates of a trace make. Public clauses cite page_before and kept_before alone.
-use Rattle.std.specs.Prelude.{◌≡◌, ◌≢◌, ℕ, ◌+◌, ◌-◌, ◌%◌, ◌<◌, ◌^◌, ◌↔◌, if◌then◌else◌, nat_lt, false, List, [], ◌∷◌, length, slice_get, slice_index, Option}
+-- What an update does to one page, and the changes that the updates of a trace make. Public clauses cite page_before alone.
+use Rattle.std.specs.Prelude.{◌≡◌, ◌≢◌, ℕ, ◌+◌, ◌-◌, ◌%◌, ◌<◌, ◌^◌, ◌↔◌, if◌then◌else◌, nat_lt, Bool, true, false, List, [], ◌∷◌, length, slice_get, slice_index, Option}
 use Rattle.std.specs.Prelude.{Some, None, Contains, IsTrue}
 use Rattle.std.specs.FinMap as finite
 use Rattle.vs_types.specs.Page.{bytes_of, covers, level_of, IsPage}
@@ -9,23 +9,20 @@ use Rattle.vs_types.specs.declared.page.Page.{Page}
 use Rattle.vs_types.specs.declared.page.Size.{Size}
 use Rattle.nr_trace.specs.Recording.{Recording}
 use Rattle.nr_trace.specs.Calls.{Answers}
-use Rattle.nr_touch.specs.Touches.{page_after, ChangesLook}
-use Rattle.nr_touch.specs.declared.change.Change.{Change}
-use Rattle.nr_touch.specs.declared.change.PlacedChange.{PlacedChange}
+use Rattle.nr_touch.specs.Touches.{page_after, ChangesLook, IsTaken, TakesAway}
+use Rattle.nr_touch.specs.declared.changes.change.Change.{Change}
+use Rattle.nr_touch.specs.declared.changes.change.PlacedChange.{PlacedChange}
 
 -- what covers the addresses of the page before the change
 abbrev pub page_before : Change → Option Page
 page_before change = if change.was_mapped then Some change.page else None
-
--- the same, but with the least rights that may be kept
-abbrev pub kept_before : Change → Option Page
-kept_before change = if change.was_mapped then Some (record change.page { rights = change.least }) else None
 
 -- the addresses of one page look otherwise in the second space, and no others; and no page begins otherwise but at the base of that one
 pub record IsPageChange (depth : Depth) (before after : Space) (change : Change) : Type 0 where
   pub well_formed : IsPage depth change.page
   pub was : (address : ℕ) → IsTrue (covers change.page address) → page_at before address ≡ page_before change
   pub differs : (address : ℕ) → IsTrue (covers change.page address) → page_at before address ≢ page_at after address
+  pub takes : (address : ℕ) → IsTrue (covers change.page address) → IsTrue change.takes ↔ IsTaken (page_at before address) (page_at after address)
   pub others : (address : ℕ) → covers change.page address ≡ false → page_at before address ≡ page_at after address
   pub elsewhere : finite.remove after change.page.base ≡ finite.remove before change.page.base
 
@@ -49,7 +46,17 @@ pub record IsPlaced (start : Space) (trace : Recording) (c : PlacedChange) : Typ
   pub number : c.number ≡ number_of c.change.page
   pub was : (address : ℕ) → IsTrue (covers c.change.page address) → page_after start trace address c.place ≡ page_before c.change
   pub differs : (address : ℕ) → IsTrue (covers c.change.page address) → ChangesLook start trace address c.place
+  pub takes : (address : ℕ) → IsTrue (covers c.change.page address) → IsTrue c.change.takes ↔ TakesAway start trace address c.place
   pub answered : (event : ℕ) → event < 2 ^ 32 → (c.answered < event) ↔ ((reply : ℕ) × (reply < event) × Answers trace reply c.made)
+
+-- when the update of a change was answered, if it takes away: after all events where it doesn't, or never was
+abbrev pub taken_at : PlacedChange → ℕ
+taken_at c = if c.change.takes then c.answered else 4294967295
+
+-- when the answer of a change ends that its addresses are found to look as they do: with a page, or with none
+abbrev pub ended_at : Bool → PlacedChange → ℕ
+ended_at true c = taken_at c
+ended_at false c = c.answered
 
 -- some change that is listed is that of a place, and of a page that has the address
 abbrev pub Lists : List PlacedChange → ℕ → ℕ → Type 0

@@ -6,8 +6,8 @@ use Rattle.std.specs.declared.cmp.Ordering.{Ordering}
 use Rattle.vs_types.specs.Space.{Space, Holds}
 use Rattle.vs_types.specs.declared.page.Page.{Page}
 use Rattle.nr_touch.specs.inside.Blocks.{IsBlockOf}
-use Rattle.nr_touch.specs.declared.change.PlacedChange.{PlacedChange}
-use Rattle.nr_touch.specs.declared.index.Index.{Index}
+use Rattle.nr_touch.specs.declared.changes.change.PlacedChange.{PlacedChange}
+use Rattle.nr_touch.specs.declared.releases.index.Index.{Index}
 
 -- the order of the rows: by block, and then by base
 abbrev pub row_cmp : ℕ × ℕ → ℕ × ℕ → Ordering

@@ -6,10 +6,10 @@ use Rattle.vs_types.specs.declared.page.Page.{Page}
 use Rattle.vs_types.specs.declared.page.Size.TheVariants.{K4, M2, G1}
 use Rattle.nr_touch.specs.inside.Blocks.{around, whole, IsBlockOf}
 use Rattle.nr_touch.specs.inside.Bounds.{IsRising}
-use Rattle.nr_touch.specs.declared.change.PlacedChange.{PlacedChange}
-use Rattle.nr_touch.specs.declared.lives.Life.{Life}
-use Rattle.nr_touch.specs.declared.lives.Lives.{Lives}
-use Rattle.nr_touch.specs.declared.stays.Stay.{Stay}
+use Rattle.nr_touch.specs.declared.changes.change.PlacedChange.{PlacedChange}
+use Rattle.nr_touch.specs.declared.releases.lives.Life.{Life}
+use Rattle.nr_touch.specs.declared.releases.lives.Lives.{Lives}
+use Rattle.nr_touch.specs.declared.releases.stays.Stay.{Stay}
 
 -- the lives of a page: in the memory of each size, and as a whole; each with the index of what it is the life of
 abbrev pub lives_at : Page → ℕ → ℕ → ℕ → List Life

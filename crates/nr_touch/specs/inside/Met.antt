@@ -6,9 +6,9 @@ use Rattle.nr_touch.specs.inside.Indexed.{HavePresent}
 use Rattle.nr_touch.specs.inside.Lives.{AreLives, HaveRows}
 use Rattle.nr_touch.specs.inside.Reached.{AreSeen}
 use Rattle.nr_touch.specs.inside.Stays.{AreRoomy, AreStretches, HaveStays}
-use Rattle.nr_touch.specs.declared.change.PlacedChange.{PlacedChange}
-use Rattle.nr_touch.specs.declared.changed.Changed.{Changed}
-use Rattle.nr_touch.specs.declared.seen.Seen.{Seen}
+use Rattle.nr_touch.specs.declared.changes.change.PlacedChange.{PlacedChange}
+use Rattle.nr_touch.specs.declared.releases.changed.Changed.{Changed}
+use Rattle.nr_touch.specs.declared.releases.seen.Seen.{Seen}
 
 -- the stays have rows in the blocks of their pages, and the rows have stretches
 pub record AreRows (changed : Changed) : Type 0 where

@@ -1,5 +1,5 @@
 -- The pages that a touch may find, and how a release is compared with them. No public clause cites this file.
-use Rattle.std.specs.Prelude.{◌≡◌, ℕ, ◌+◌, ◌*◌, ◌%◌, ◌<◌, ◌≤◌, ◌^◌, ◌&&◌, min, nat_lt, not, true, List, None, Option, Some, Contains}
+use Rattle.std.specs.Prelude.{◌≡◌, ℕ, ◌+◌, ◌*◌, ◌%◌, ◌<◌, ◌≤◌, ◌^◌, ◌&&◌, ◌⊎◌, min, nat_lt, not, true, List, None, Option, Some, Contains}
 use Rattle.vs_types.specs.Page.{bytes_of}
 use Rattle.vs_types.specs.Space.{Space}
 use Rattle.vs_types.specs.declared.access.Access.TheVariants.{Read}
@@ -9,13 +9,14 @@ use Rattle.vs_types.specs.declared.page.Page.{Page}
 use Rattle.nr_trace.specs.Recording.{Recording}
 use Rattle.nr_joined.specs.Run.{Run}
 use Rattle.nr_touch.specs.Releases.{HasPhys, IsReachedFrom}
-use Rattle.nr_touch.specs.inside.Tables.{IsRightByTablesBehind}
-use Rattle.nr_touch.specs.inside.Changes.{number_of}
+use Rattle.nr_touch.specs.Touches.{page_after, IsAllowedPrefix, IsRightBehind}
+use Rattle.nr_touch.specs.inside.Earlier.{EndsNowhere, IsLeftAt}
+use Rattle.nr_touch.specs.inside.Changes.{number_of, taken_at}
 use Rattle.nr_touch.specs.inside.Columns.{IsOf}
-use Rattle.nr_touch.specs.declared.change.PlacedChange.{PlacedChange}
-use Rattle.nr_touch.specs.declared.release.Release.{Release}
-use Rattle.nr_touch.specs.declared.seen.Seen.{Seen}
-use Rattle.nr_touch.specs.declared.touch.Touch.{Touch}
+use Rattle.nr_touch.specs.declared.changes.change.PlacedChange.{PlacedChange}
+use Rattle.nr_touch.specs.declared.releases.release.Release.{Release}
+use Rattle.nr_touch.specs.declared.releases.seen.Seen.{Seen}
+use Rattle.nr_touch.specs.declared.touches.touch.Touch.{Touch}
 
 -- the touch that is made and answered at an event, and finds this physical address at that one
 abbrev pub probe_at : ℕ → ℕ → ℕ → Touch
@@ -39,7 +40,7 @@ pub record IsRoomy (page : Page) : Type 0 where
 -- the memory of a release has what lies so far behind the base of a page, and a touch that finds it there would be right
 pub record IsMetAt (before : Option Run) (start : Space) (segment : Recording) (release : Release) (page : Page) (offset : ℕ) : Type 0 where
   pub has : HasPhys release (page.phys + offset)
-  pub right : IsRightByTablesBehind before start segment (probe_at release.made (page.base + offset) (page.phys + offset))
+  pub right : IsRightBehind before start segment (probe_at release.made (page.base + offset) (page.phys + offset))
 
 -- some frame of the page is so
 pub record LeadsThere (before : Option Run) (start : Space) (segment : Recording) (release : Release) (page : Page) : Type 0 where
@@ -47,41 +48,64 @@ pub record LeadsThere (before : Option Run) (start : Space) (segment : Recording
   pub within : frame * 4096 < bytes_of page.size
   pub met : IsMetAt before start segment release page (frame * 4096)
 
+-- two pages have the same addresses and the same memory, whatever their rights
+pub record IsSamePlace (page other : Page) : Type 0 where
+  pub base : page.base ≡ other.base
+  pub size : page.size ≡ other.size
+  pub phys : page.phys ≡ other.phys
+
+-- a touch that is made and answered at an event may find just this page at an address: as after some entries of the segment, or as the changes leave it
+abbrev pub FindsPage : Space → Recording → List PlacedChange → ℕ → Page → ℕ → Type 0
+FindsPage start segment earlier event page address =
+    ((n : ℕ) × IsAllowedPrefix start segment (probe_at event address 0) n × (page_after start segment address n ≡ Some page))
+    ⊎ (EndsNowhere start segment address (Some page) event × IsLeftAt earlier address (Some page))
+
+-- the memory of a release has a frame of the page, and a touch may find this page there, or one of its place
+pub record LeadsSo (start : Space) (segment : Recording) (earlier : List PlacedChange) (release : Release) (page : Page) : Type 0 where
+  pub frame : ℕ
+  pub within : frame * 4096 < bytes_of page.size
+  pub has : HasPhys release (page.phys + frame * 4096)
+  pub own : Page
+  pub same : IsSamePlace page own
+  pub finds : FindsPage start segment earlier release.made own (page.base + frame * 4096)
+
 -- the page is so at or below an address
-abbrev pub LeadsBelow : Option Run → Space → Recording → Release → ℕ → Page → Type 0
-LeadsBelow before start segment release address page =
-    (leads : LeadsThere before start segment release page) × (page.base + leads.frame * 4096 ≤ address)
+abbrev pub LeadsBelow : Space → Recording → List PlacedChange → Release → ℕ → Page → Type 0
+LeadsBelow start segment earlier release address page =
+    (leads : LeadsSo start segment earlier release page) × (page.base + leads.frame * 4096 ≤ address)
 
 -- some page of these is so
-abbrev pub SomeLeadsThere : Option Run → Space → Recording → Release → List Seen → Type 0
-SomeLeadsThere before start segment release seen = (s : Seen) × Contains seen s × LeadsThere before start segment release s.page
+abbrev pub SomeLeadsSo : Space → Recording → List PlacedChange → Release → List Seen → Type 0
+SomeLeadsSo start segment earlier release seen = (s : Seen) × Contains seen s × LeadsSo start segment earlier release s.page
 
--- the memory of a release is met in a frame of the page, and in none before it
-pub record IsFirstFrame (before : Option Run) (start : Space) (segment : Recording) (release : Release) (page : Page) (frame : ℕ) : Type 0 where
+-- the memory of a release is met in a frame of the page, and none before it leads there so
+pub record IsFirstFrame (before : Option Run) (start : Space) (segment : Recording) (earlier : List PlacedChange) (release : Release) (page : Page) (frame : ℕ)
+    : Type 0 where
   pub met : IsMetAt before start segment release page (frame * 4096)
-  pub first : (lower : ℕ) → lower < frame → IsMetAt before start segment release page (lower * 4096) → ⊥
+  pub first : (leads : LeadsSo start segment earlier release page) → frame ≤ leads.frame
 
--- the first frame of the page in which the memory of a release is met, or none
-abbrev pub FindsFrame : Option Run → Space → Recording → Release → Page → Option ℕ → Type 0
-FindsFrame before start segment release page None = LeadsThere before start segment release page → ⊥
-FindsFrame before start segment release page (Some frame) = IsFirstFrame before start segment release page frame
+-- such a frame of the page, or none where it doesn't lead there so
+abbrev pub FindsFrame : Option Run → Space → Recording → List PlacedChange → Release → Page → Option ℕ → Type 0
+FindsFrame before start segment earlier release page None = LeadsSo start segment earlier release page → ⊥
+FindsFrame before start segment earlier release page (Some frame) = IsFirstFrame before start segment earlier release page frame
 
--- an address from which the memory of a release is reached, where no page of these leads there at or below a lower one
-pub record IsLeastIn (before : Option Run) (start : Space) (segment : Recording) (release : Release) (seen : List Seen) (address : ℕ) : Type 0 where
+-- an address from which the memory of a release is reached, where no page of these leads there so at a lower one
+pub record IsLeastIn (before : Option Run) (start : Space) (segment : Recording) (earlier : List PlacedChange) (release : Release) (seen : List Seen)
+    (address : ℕ) : Type 0 where
   pub from : IsReachedFrom before start segment release address
-  pub least : (s : Seen) → Contains seen s → (leads : LeadsThere before start segment release s.page) → address ≤ s.page.base + leads.frame * 4096
+  pub least : (s : Seen) → Contains seen s → (leads : LeadsSo start segment earlier release s.page) → address ≤ s.page.base + leads.frame * 4096
 
--- such an address, or none where no page of these leads there
-abbrev pub FindsAddress : Option Run → Space → Recording → Release → List Seen → Option ℕ → Type 0
-FindsAddress before start segment release seen None = SomeLeadsThere before start segment release seen → ⊥
-FindsAddress before start segment release seen (Some address) = IsLeastIn before start segment release seen address
+-- such an address, or none where no page of these leads there so
+abbrev pub FindsAddress : Option Run → Space → Recording → List PlacedChange → Release → List Seen → Option ℕ → Type 0
+FindsAddress before start segment earlier release seen None = SomeLeadsSo start segment earlier release seen → ⊥
+FindsAddress before start segment earlier release seen (Some address) = IsLeastIn before start segment earlier release seen address
 
 -- an address, or another one if there is one and that is lower
 abbrev pub IsLower : Option ℕ → ℕ → ℕ → Type 0
 IsLower None other lower = lower ≡ other
 IsLower (Some address) other lower = lower ≡ min address other
 
--- a page that is there after the whole log; before a change of the segment; or before one that earlier segments left, which isn't over
+-- a page that is there after the whole log; before a change of the segment; or before one that earlier segments left, which doesn't end that it is found
 abbrev pub seen_now : ℕ → Page → Seen
 seen_now places page = record { page = page; place = places; there = true }
 
@@ -89,7 +113,7 @@ abbrev pub seen_before : PlacedChange → Seen
 seen_before c = record { page = c.change.page; place = c.place; there = c.change.was_mapped }
 
 abbrev pub seen_left : PlacedChange → Seen
-seen_left c = record { page = c.change.page; place = 0; there = c.change.was_mapped && not (nat_lt c.answered 4294967295) }
+seen_left c = record { page = c.change.page; place = 0; there = c.change.was_mapped && not (nat_lt (taken_at c) 4294967295) }
 
 -- all of them, of the pages that are there after the log
 pub record AreSeen (own earlier : List PlacedChange) (after : List Page) (places : ℕ) (seen : List Seen) : Type 0 where
@@ -102,4 +126,4 @@ pub record AreSeen (own earlier : List PlacedChange) (after : List Page) (places
 pub record IsAlive (changes : List PlacedChange) (s : Seen) (event : ℕ) : Type 0 where
   pub there : s.there ≡ true
   pub from : (c : PlacedChange) → Contains changes c → IsOf (number_of s.page) c → c.place < s.place → c.made ≤ event
-  pub until : (c : PlacedChange) → Contains changes c → IsOf (number_of s.page) c → s.place ≤ c.place → event ≤ c.answered
+  pub until : (c : PlacedChange) → Contains changes c → IsOf (number_of s.page) c → s.place ≤ c.place → event ≤ taken_at c

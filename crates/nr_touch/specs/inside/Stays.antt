@@ -1,16 +1,10 @@
 -- From when on and until when a page may be found, as far as its own changes say. No public clause cites this file.
 use Rattle.std.specs.Prelude.{◌≡◌, ℕ, ◌<◌, ◌≤◌, ◌^◌, List, length, slice_get, slice_index, Some, Contains}
 use Rattle.vs_types.specs.declared.page.Page.{Page}
-use Rattle.nr_touch.specs.inside.Reached.{IsAlive, IsRoomy}
-use Rattle.nr_touch.specs.declared.change.PlacedChange.{PlacedChange}
-use Rattle.nr_touch.specs.declared.seen.Seen.{Seen}
-use Rattle.nr_touch.specs.declared.stays.Stay.{Stay}
-
--- two pages have the same addresses and the same memory, whatever their rights
-pub record IsSamePlace (page other : Page) : Type 0 where
-  pub base : page.base ≡ other.base
-  pub size : page.size ≡ other.size
-  pub phys : page.phys ≡ other.phys
+use Rattle.nr_touch.specs.inside.Reached.{IsAlive, IsRoomy, IsSamePlace}
+use Rattle.nr_touch.specs.declared.changes.change.PlacedChange.{PlacedChange}
+use Rattle.nr_touch.specs.declared.releases.seen.Seen.{Seen}
+use Rattle.nr_touch.specs.declared.releases.stays.Stay.{Stay}
 
 -- some stay of these is of the page's addresses and memory, and has the event
 abbrev pub HasStay : List Stay → Page → ℕ → Type 0

@@ -3,7 +3,7 @@ use Rattle.std.specs.Prelude.{◌≡◌, List, [], ◌∷◌}
 use Rattle.vs_types.specs.Space.{Space, IsSpace}
 use Rattle.vs_types.specs.declared.depth.Depth.{Depth}
 use Rattle.nr_touch.specs.inside.Changes.{IsPageChange}
-use Rattle.nr_touch.specs.declared.change.Change.{Change}
+use Rattle.nr_touch.specs.declared.changes.change.Change.{Change}
 
 -- the change makes the second space of the first
 pub record ComesFrom (depth : Depth) (before after : Space) (change : Change) : Type 0 where

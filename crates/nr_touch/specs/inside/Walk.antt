@@ -5,8 +5,8 @@ use Rattle.vs_types.specs.declared.page.Page.{Page}
 use Rattle.nr_trace.specs.Recording.{Recording}
 use Rattle.nr_touch.specs.Touches.{IsAnsweredAt}
 use Rattle.nr_touch.specs.inside.Changes.{page_before}
-use Rattle.nr_touch.specs.declared.change.PlacedChange.{PlacedChange}
-use Rattle.nr_touch.specs.declared.touch.Touch.{Touch}
+use Rattle.nr_touch.specs.declared.changes.change.PlacedChange.{PlacedChange}
+use Rattle.nr_touch.specs.declared.touches.touch.Touch.{Touch}
 
 -- what covers an address until its next change, or else in the space at the end
 abbrev pub shown : Option PlacedChange → Space → ℕ → Option Page

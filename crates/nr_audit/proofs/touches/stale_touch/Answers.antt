@@ -3,8 +3,8 @@ use Rattle.vs_types.specs.Space.{IsSpace}
 use Rattle.vs_types.specs.declared.depth.Depth.{Depth}
 use Rattle.vs_plain.specs.Plain.{BoundedSpace}
 use Rattle.nr_touch.specs.Releases.{AreMemory}
-use Rattle.nr_touch.specs.declared.release.Release.{Release}
-use Rattle.nr_touch.specs.declared.touch.Touch.{Touch}
+use Rattle.nr_touch.specs.declared.releases.release.Release.{Release}
+use Rattle.nr_touch.specs.declared.touches.touch.Touch.{Touch}
 use Rattle.nr_audit.specs.inside.Begun.{AreReleasesBelow, AreTouchesBelow}
 use Rattle.nr_audit.proofs.Judgements.{no_touches}
 use Rattle.nr_audit.proofs.Pasts.{left_quiet}

@@ -9,6 +9,5 @@ returns c =
       c.fewest.ensures,
       c.earlier_words-earlier.ensures,
       c.deref.ensures.value,
-      c.in_ok-kept.ensures,
     )
     at c.format.ensures.ok

@@ -31,6 +31,7 @@ returns-clause-twice c =
           (subst (λ (s : Space). IfSome c.args.after.tail.index (λ index. HasPages index s)) (ap (λ (s : BoundedSpace). s.space) (sym same) ∙ ends)
           c.requires.index)
           of_run;
+      sound = c.requires.sound;
     }
 
 pub returns-clause-sums : goal.returns-clause-sums

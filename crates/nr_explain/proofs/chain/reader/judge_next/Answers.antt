@@ -35,6 +35,9 @@ go_on-requires-clause-index c =
     index_behind c.args.last c.args.segment.now c.args.before c.requires.twice c.requires.follows c.in-Ok.past c.requires.known
     (λ came is. c.in-Ok.ensures.kept (run_in came) is)
 
+pub go_on-requires-clause-sound : goal.go_on-requires-clause-sound
+go_on-requires-clause-sound c = c.in-Ok.ensures.fits.tail
+
 pub invariant_of-next : goal.invariant_of-next
 invariant_of-next c =
     let came = c.in_ok-came-in-Ok.came in

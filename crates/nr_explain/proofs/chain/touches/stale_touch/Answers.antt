@@ -1,14 +1,15 @@
-use Rattle.std.proofs.Common.{◌≡◌, ℕ, length, ap, sym, ◌∙◌, subst, arith}
+use Rattle.std.proofs.Common.{◌≡◌, ℕ, Bool, ap, sym, ◌∙◌, subst, arith}
 use Rattle.vs_types.specs.Space.{Space}
 use Rattle.vs_plain.specs.Plain.{BoundedSpace}
 use Rattle.nr_trace.specs.Calls.{IsCall}
-use Rattle.nr_explain.specs.ChainEvidence.{fewest, AreLooks, IsMissed}
+use Rattle.nr_explain.specs.ChainEvidence.{fewest, found_page, AreLooks, IsLater, IsMissed, IsOpenBefore}
+use Rattle.nr_explain.specs.Facts.{asked_address}
 use Rattle.nr_explain.specs.Nearest.{IsNearest}
-use Rattle.nr_explain.specs.inside.Windows.{IsWindowBelow}
+use Rattle.nr_explain.specs.inside.Windows.{IsWindowOf}
 use Rattle.nr_explain.proofs.Answering.{none_open, of_touch, touch_asks, touch_is_call}
 use Rattle.nr_explain.proofs.EarlierLooks.{earlier_at, sound_tail}
-use Rattle.nr_explain.proofs.KeptRights.{first_within, last_below}
-use Rattle.nr_explain.proofs.Lags.{lagging}
+use Rattle.nr_explain.proofs.Lags.{found_so, lagging}
+use Rattle.nr_explain.proofs.Missed.{above_within}
 use Rattle.nr_explain.specs.inside.Reading.{all_states, left_seen}
 use Rattle.nr_explain.proofs.Windows.{window_is}
 use Rattle.nr_explain.proofs.chain.touches.stale_touch.Goals as goal
@@ -33,17 +34,20 @@ looks_in-requires-clause-within c =
 
 pub missed_update-missed-requires : goal.missed_update-missed-requires
 missed_update-missed-requires c =
-    (c.in_ok-space.space.space, c.asked_address-address.result, c.args.index, c.in_ok-window.ensures.reached)
+    (c.in_ok-space.space.space, c.asked_address-address.result, c.args.index, c.is_none-with_page.result, c.in_ok-window.ensures.reached)
 
-pub kept_of-requires-clause-order : goal.kept_of-requires-clause-order
-kept_of-requires-clause-order c =
-    last_below c.in_ok-begun.begun.space c.args.segment.now c.call_at-call.result.request c.in-Some.reply.answer c.in_ok-window.window.first
+pub open_update-still_open-requires : goal.open_update-still_open-requires
+open_update-still_open-requires c =
+    (c.in_ok-space.space.space, c.asked_address-address.result, c.args.index, c.in-Some.reply.event, c.is_none-with_page.result, c.in_ok-window.ensures)
+
+pub later_update-later-requires-clause-window : goal.later_update-later-requires-clause-window
+later_update-later-requires-clause-window c =
+    (c.in_ok-space.space.space, c.asked_address-address.result, c.args.index, c.in-Some.reply.event, c.is_none-with_page.result, c.in_ok-window.ensures)
+
+pub later_update-later-requires-clause-right : goal.later_update-later-requires-clause-right
+later_update-later-requires-clause-right c =
+    above_within c.in_ok-begun.begun.space c.args.segment.now c.call_at-call.result.request c.in-Some.reply.answer c.in_ok-window.window.first
     c.in_ok-window.window.last c.in_ok-right.right c.in_ok-right.ensures
-
-pub kept_of-requires-clause-within : goal.kept_of-requires-clause-within
-kept_of-requires-clause-within c =
-    first_within c.in_ok-space.space.space c.args.segment.now c.asked_address-address.result c.args.index c.in-Some.reply.event c.in_ok-window.window
-    c.in_ok-window.ensures
 
 pub returns-clause-is : goal.returns-clause-is
 returns-clause-is c =
@@ -59,38 +63,48 @@ returns-clause-is c =
     let here : c.in_ok-space.space.space ≡ start = ap (λ (s : BoundedSpace). s.space) c.in_ok-space.ensures in
     let again : c.in_ok-again.again.space ≡ start = ap (λ (s : BoundedSpace). s.space) c.in_ok-again.ensures in
     let begun : c.in_ok-begun.begun.space ≡ start = ap (λ (s : BoundedSpace). s.space) c.in_ok-begun.ensures in
-    let is = subst (λ (s : Space). IsWindowBelow s segment address c.args.index reply.event (length segment.log) window) here c.in_ok-window.ensures in
+    let found = c.is_none-with_page.result in
+    let is : IsWindowOf start segment address c.args.index reply.event found window =
+    subst (λ (s : Space). IsWindowOf s segment address c.args.index reply.event found window) here c.in_ok-window.ensures in
+    let kind : found ≡ found_page c.lag_of-lag.result = found_so c.lag_of-lag.result found c.is_none-with_page.ensures in
+    let at = c.asked_address-address.ensures in
     let looks = subst (λ (s : Space). AreLooks s segment address c.with_lag-from.result.first c.with_lag-from.result.last c.in_ok-looks.looks.items) again
     c.in_ok-looks.ensures in
     record {
       call = c.call_at-call.ensures.is;
       reply = first.0;
       names = names;
-      window = λ touch has made n.
-          window_is start segment address c.args.index reply.event touch window
-          (sym (touch_asks segment call touch c.call_at-call.ensures.is has made) ∙ sym c.asked_address-address.ensures) (made ∙ event)
-          (of_touch segment c.args.index reply touch c.requires.touch.clean first.0 first.1 has (made ∙ event)) is n;
+      window = λ touch has made n alike.
+          window_is start segment address c.args.index reply.event found touch window
+          (sym (touch_asks segment call touch c.call_at-call.ensures.is has made) ∙ sym at) (made ∙ event)
+          (of_touch segment c.args.index reply touch c.requires.touch.clean first.0 first.1 has (made ∙ event)) is n (alike ∙ sym kind);
       lag = c.lag_of-lag.ensures;
-      lagging = lagging start segment address reply.event call window c.call_at-call.ensures.is
-          (subst (λ (n : ℕ). IsWindowBelow start segment address n reply.event (length segment.log) window) (sym event) is) reply.answer c.lag_of-lag.result
+      lagging = lagging start segment address reply.event call found window c.call_at-call.ensures.is
+          (subst (λ (n : ℕ). IsWindowOf start segment address n reply.event found window) (sym event) is) reply.answer c.lag_of-lag.result
           c.lag_of-lag.ensures (λ touch has made. record {
-            address = sym (touch_asks segment call touch c.call_at-call.ensures.is has made) ∙ sym c.asked_address-address.ensures;
+            address = sym (touch_asks segment call touch c.call_at-call.ensures.is has made) ∙ sym at;
             made = made;
             answered = of_touch segment c.args.index reply touch c.requires.touch.clean first.0 first.1 has (made ∙ event);
             known = has.known;
           });
-      looks = subst (λ (n : ℕ). AreLooks start segment n (fewest window.first c.lag_of-lag.result) window.last c.in_ok-looks.looks.items)
-          c.asked_address-address.ensures
+      looks = subst (λ (n : ℕ). AreLooks start segment n (fewest window.first c.lag_of-lag.result) window.last c.in_ok-looks.looks.items) at
           (subst (λ (n : ℕ). AreLooks start segment address (fewest window.first c.lag_of-lag.result) n c.in_ok-looks.looks.items) c.with_lag-from.ensures.last
           (subst (λ (n : ℕ). AreLooks start segment address n c.with_lag-from.result.last c.in_ok-looks.looks.items) c.with_lag-from.ensures.first looks));
-      missed = subst (λ (a : ℕ). IsMissed start segment a call.event window.first c.missed_update-missed.result) c.asked_address-address.ensures
-          (subst (λ (m : ℕ). IsMissed start segment address m window.first c.missed_update-missed.result) (sym event)
-          (c.missed_update-missed.ensures start address c.args.index is.reached));
+      missed = subst (λ (b : Bool). IsMissed start segment (asked_address call.request) call.event b window.first c.missed_update-missed.result) kind
+          (subst (λ (a : ℕ). IsMissed start segment a call.event found window.first c.missed_update-missed.result) at
+          (subst (λ (m : ℕ). IsMissed start segment address m found window.first c.missed_update-missed.result) (sym event)
+          (c.missed_update-missed.ensures start address c.args.index found is.reached)));
+      open_then = subst (λ (b : Bool). IsOpenBefore start segment (asked_address call.request) call.event b window.first c.open_update-still_open.result) kind
+          (subst (λ (a : ℕ). IsOpenBefore start segment a call.event found window.first c.open_update-still_open.result) at
+          (subst (λ (m : ℕ). IsOpenBefore start segment address m found window.first c.open_update-still_open.result) (sym event)
+          (c.open_update-still_open.ensures start address c.args.index reply.event found is)));
+      later = subst (λ (a : ℕ). IsLater start segment a reply.event window.last c.in_ok-right.right.behind c.later_update-later.result) at
+          (c.later_update-later.ensures start address c.args.index reply.event found is);
       right = subst (λ (s : Space). IsNearest s segment call.request reply.answer window.first window.last c.in_ok-right.right) begun
           c.in_ok-right.ensures;
-      kept = c.in_ok-kept.ensures;
     }
 
 pub returns-clause-left : goal.returns-clause-left
 returns-clause-left c =
-    earlier_at (left_seen (all_states c.args.last.now)) c.asked_address-address.result _ _ _ c.asked_address-address.ensures c.in_ok-earlier.ensures
+    earlier_at (left_seen (all_states c.args.last.now)) c.asked_address-address.result _ _ _ _ _ c.asked_address-address.ensures
+    (found_so c.lag_of-lag.result _ c.is_none-with_page.ensures) c.in_ok-earlier.ensures

@@ -1,9 +1,0 @@
-use Rattle.std.proofs.Common.{inl, inr}
-use Rattle.nr_touch.proofs.IndexedPages.{own_or_not}
-use Rattle.nr_touch.proofs.releases.noted.Goals as goal
-
-pub returns : goal.returns
-returns c = λ changes space quiet present page holds. elim (own_or_not changes page) [
-  | inl own ↦ c.in_ok-note_all.ensures.own page (present page holds own)
-  | inr none ↦ c.in_ok-note_all.ensures.others page (quiet page holds none)
-]

@@ -1,0 +1,122 @@
+use Rattle.std.proofs.Common.{◌≡◌, ◌<◌, ◌++◌, ℕ, List, Contains, IfSome, Option, length, map, refl, sym, ap, ◌∙◌, subst, arith}
+use Rattle.std.specs.List.Sorted.{IsPermutation}
+use Rattle.std.proofs.lemmas.List.Sorted.{IsPermutation-sym, Contains-permutation}
+use Rattle.vs_types.specs.Space.{Space}
+use Rattle.nr_trace.specs.Recording.{Recording}
+use Rattle.nr_joined.specs.Run.{Run}
+use Rattle.vs_types.specs.declared.depth.Depth.{Depth}
+use Rattle.nr_joined.proofs.Orderly.{clean_is_orderly}
+use Rattle.nr_touch.specs.declared.changes.change.Change.{Change}
+use Rattle.nr_touch.specs.declared.changes.change.PlacedChange.{PlacedChange}
+use Rattle.nr_touch.specs.inside.Earlier.{AreOfRun}
+use Rattle.nr_touch.specs.inside.Lefts.{KeepLooks}
+use Rattle.nr_touch.specs.inside.Levels.{left_in, left_of, IsLadder}
+use Rattle.nr_touch.specs.Tails.{IsSoundLeft, IsTailOf}
+use Rattle.nr_touch.specs.inside.Indexed.{HasPages, HasStayed}
+use Rattle.nr_touch.specs.declared.changes.history.History.{History}
+use Rattle.nr_touch.specs.declared.touches.tail.Tail.{Tail}
+use Rattle.nr_touch.specs.inside.Undo.{LeadsTo}
+use Rattle.nr_touch.specs.declared.touches.tail.Left.{Left}
+use Rattle.nr_touch.proofs.IndexedPages.{still_there}
+use Rattle.nr_touch.proofs.cuts.Levels.{ladder, levels_permuted}
+use Rattle.nr_touch.proofs.cuts.Tails.{index_of_tail, of_run, tail_with}
+use Rattle.nr_touch.proofs.cuts.Thinned.{sound_lefts}
+use Rattle.nr_touch.proofs.Sighted.{map_contains}
+use Rattle.nr_touch.proofs.Undone.{same_bounded}
+use Rattle.nr_touch.proofs.Walked.{permuted}
+use Rattle.nr_touch.proofs.touches.stale.follow.Goals as goal
+
+-- the changes that are listed lead from the start to the space that the replay has reached
+led : (depth own : Depth) (start : Space) (changes : List PlacedChange) (listed : List Change) (now : Space) → own ≡ depth
+    → listed ≡ map (λ (each : PlacedChange). each.change) changes
+    → LeadsTo depth start (map (λ (each : PlacedChange). each.change) changes) now → LeadsTo own start listed now
+led depth own start changes listed now same are leads =
+    subst (λ d. LeadsTo d start listed now) (sym same) (subst (λ (cs : List Change). LeadsTo depth start cs now) (sym are) leads)
+
+-- the columns of what was left
+pub first_of-stale-requires-clause-earlier : goal.first_of-stale-requires-clause-earlier
+first_of-stale-requires-clause-earlier c = subst IsLadder (sym c.deref-3.ensures.value) (ladder c.args.tail.changes.items c.args.tail.levels.items c.requires.sound.1)
+
+pub first_reachable-requires-clause-earlier : goal.first_reachable-requires-clause-earlier
+first_reachable-requires-clause-earlier c = subst IsLadder (sym c.deref-4.ensures.value) (ladder c.args.tail.changes.items c.args.tail.levels.items c.requires.sound.1)
+
+pub left_after-requires-clause-own : goal.left_after-requires-clause-own
+left_after-requires-clause-own c =
+    subst (λ (xs : List Left). (left : Left) → Contains xs left → IsSoundLeft left)
+    (sym (c.deref-5.ensures.value ∙ c.in_ok-lefts.ensures ∙ ap (map left_of) c.deref-2.ensures.value))
+    (sound_lefts c.in_ok-own.own.items c.in_ok-own.ensures.numbered)
+
+pub undo_all-requires : goal.undo_all-requires
+undo_all-requires c =
+    let listed = c.deref-6.ensures.value ∙ c.in_ok-done.ensures ∙ ap (map (λ (each : PlacedChange). each.change)) c.deref.ensures.value in (
+      c.args.start.space,
+      led c.args.start.depth c.in_ok-own.space.depth c.args.start.space c.in_ok-own.own.items c.deref-6.result.now
+          c.in_ok-own.space.space c.in_ok-own.ensures.depth listed c.in_ok-own.ensures.leads,
+    )
+
+-- a page at whose base no change begins was there at the start
+stayed : (depth : Depth) (start space : Space) (own sorted : List PlacedChange) → IsPermutation own sorted
+    → LeadsTo depth start (map (λ (each : PlacedChange). each.change) own) space → HasStayed sorted start space
+stayed depth start space own sorted same leads = λ page holds none.
+    still_there depth start (map (λ (each : PlacedChange). each.change) own) space leads page
+    (λ change has begins.
+    let (placed, listed, is) = map_contains (λ (each : PlacedChange). each.change) own change has in
+    none (placed, Contains-permutation own sorted placed same listed, ap (λ (one : Change). one.page.base) is ∙ begins))
+    holds
+
+pub returns-clause-finds : goal.returns-clause-finds
+returns-clause-finds c = λ run of_tail goes_on clean.
+    let start = c.args.start.space in
+    let segment = c.args.segment.now in
+    let are = permuted start segment c.in_ok-own.own.items c.in_ok-history.history.changes.items c.in_ok-history.ensures.same
+    (c.in_ok-own.ensures.changes clean) in
+    let levels = c.requires.sound.1 in
+    let earlier = subst (λ (ls : List History). AreOfRun run (left_in ls)) (sym c.deref-3.ensures.value)
+    (of_run run c.args.tail levels.placed (left_in c.args.tail.levels.items) of_tail levels.are
+    (levels_permuted levels.placed c.args.tail.levels.items levels.cover)) in
+    c.first_of-stale.ensures.finds run start segment
+    (record { orderly = clean_is_orderly segment clean; goes_on = goes_on; own = are; earlier = earlier })
+    (c.in_ok-own.ensures.space clean) (ap length c.log.ensures.reads)
+
+pub returns-clause-reaches : goal.returns-clause-reaches
+returns-clause-reaches c = λ run of_tail goes_on clean.
+    let start = c.args.start.space in
+    let segment = c.args.segment.now in
+    let are = permuted start segment c.in_ok-own.own.items c.in_ok-history.history.changes.items c.in_ok-history.ensures.same
+    (c.in_ok-own.ensures.changes clean) in
+    let levels = c.requires.sound.1 in
+    let earlier = subst (λ (ls : List History). AreOfRun run (left_in ls)) (sym c.deref-4.ensures.value)
+    (of_run run c.args.tail levels.placed (left_in c.args.tail.levels.items) of_tail levels.are
+    (levels_permuted levels.placed c.args.tail.levels.items levels.cover)) in
+    c.in_ok-reachable.ensures.finds run start segment
+    (record { orderly = clean_is_orderly segment clean; goes_on = goes_on; own = are; earlier = earlier }) (c.in_ok-own.ensures.space clean)
+    (ap length c.log.ensures.reads) (index_of_tail run start segment c.args.tail goes_on of_tail)
+    (stayed c.args.start.depth start c.in_ok-own.space.space c.in_ok-own.own.items c.in_ok-history.history.changes.items c.in_ok-history.ensures.same
+    c.in_ok-own.ensures.leads)
+
+pub returns-clause-tail : goal.returns-clause-tail
+returns-clause-tail c = λ run of_tail goes_on clean.
+    let start = c.args.start.space in
+    let segment = c.args.segment.now in
+    let found : Tail = record { changes = c.in_ok-changes.changes; levels = c.in_ok-changes.levels; index = c.in_ok-reachable.index } in
+    let few : length segment.events < 4294967295 = let most = c.log.ensures.in_range.few_events in omega (arith, most) in
+    let looks = subst (λ (own : List Left). KeepLooks (c.args.tail.changes.items ++ own) found.changes.items)
+    (c.deref-5.ensures.value ∙ c.in_ok-lefts.ensures ∙ ap (map left_of) c.deref-2.ensures.value) c.in_ok-changes.ensures.looks in
+    let indexed = subst (λ (space : Space). IfSome found.index (λ i. HasPages i space)) (c.in_ok-own.ensures.space clean)
+    (c.in_ok-reachable.ensures.index start (index_of_tail run start segment c.args.tail goes_on of_tail)
+    (stayed c.args.start.depth start c.in_ok-own.space.space c.in_ok-own.own.items c.in_ok-history.history.changes.items c.in_ok-history.ensures.same
+    c.in_ok-own.ensures.leads)) in
+    tail_with start segment (clean_is_orderly segment clean) c.in_ok-own.own.items (c.in_ok-own.ensures.changes clean)
+    c.in_ok-own.ensures.by_place few run c.args.tail found indexed of_tail goes_on looks
+
+pub returns-clause-start : goal.returns-clause-start
+returns-clause-start c =
+    let start = c.args.start in
+    let space = c.in_ok-own.space in
+    let listed = c.deref-6.ensures.value ∙ c.in_ok-done.ensures ∙ ap (map (λ (each : PlacedChange). each.change)) c.deref.ensures.value in
+    c.in_ok-start.ensures start.space (led start.depth space.depth start.space c.in_ok-own.own.items c.deref-6.result.now space.space
+    c.in_ok-own.ensures.depth listed c.in_ok-own.ensures.leads)
+    ∙ same_bounded (record space { space = start.space }) start c.in_ok-own.ensures.depth c.in_ok-own.ensures.limit refl
+
+pub returns-clause-sound : goal.returns-clause-sound
+returns-clause-sound c = (c.in_ok-changes.ensures.sound, c.in_ok-changes.ensures.levels)

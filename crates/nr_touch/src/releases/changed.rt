@@ -1,0 +1,205 @@
+//! A release beside the pages that updates of its segment changed, or that updates of earlier segments may still have left: a search finds
+//! those that may be met.
+
+ghost use Rattle.std.specs.Prelude.{◌≡◌, ◌<◌, ◌≤◌, ◌^◌, length, slice_get, Contains, IfOk, IsTrue, Option, Some};
+ghost use Rattle.vs_types.specs.Space.{Space};
+ghost use Rattle.vs_types.specs.declared.page.Page.{Page as PageRow};
+ghost use Rattle.nr_trace.specs.Orders.{space_from};
+ghost use Rattle.nr_trace.specs.Recording.{IsMemory, Recording};
+ghost use Rattle.nr_joined.specs.Run.{Run};
+ghost use Rattle.nr_touch.specs.declared.releases.stays.Stay.{Stay as StayRow};
+ghost use Rattle.nr_touch.specs.inside.Blocks.{IsBlockOf};
+ghost use Rattle.nr_touch.specs.inside.Columns.{AreColumns};
+ghost use Rattle.nr_touch.specs.inside.Earlier.{IsFollowed};
+ghost use Rattle.nr_touch.specs.inside.Met.{AreRows, HasSeen};
+ghost use Rattle.nr_touch.specs.inside.Reached.{IsRoomy, LeadsSo, LeadsThere};
+ghost use Rattle.nr_touch.specs.inside.Stays.{AreRoomy, HasStay};
+ghost use Rattle.nr_touch.specs.inside.Levels.{left_in, IsLadder};
+
+use crate::changes::history::History;
+use crate::releases::block::{around, whole};
+use crate::releases::lives::Lives;
+use crate::releases::meeting::leads_there;
+use crate::releases::release::Release;
+use crate::releases::seen::seen_of;
+use crate::releases::stays::{Stay, stays_of};
+use crate::releases::stretches::Stretches;
+use std::alloc::Global;
+use vs_plain::PlainSpace;
+use vs_types::{Memory, Page, Size};
+
+/// The pages that changes are of, and from when on and until when a touch may find them, as far as these say.
+#[derive(Debug, Drop)]
+pub(crate) struct Changed {
+    pub(crate) stays: Vec<Stay>,
+    pub(crate) lives: Lives,
+    pub(crate) stretches: Stretches,
+}
+
+impl Changed {
+    /// Those of the pages that are there after the log, of so many places, and of the ones before each change of the segment, or left
+    /// before it. Allocates at most 336 bytes for each of them, of which 160 are freed.
+    pub(crate) fn of(
+        alloc: Global,
+        history: &History,
+        earlier: &[History],
+        present: &[Page],
+        places: u32,
+    ) -> Result<Changed, Memory>
+        requires own { AreColumns history.now }
+        requires earlier { IsLadder earlier.now }
+        requires roomy { (page : PageRow) → Contains present.now page → IsRoomy page }
+        ensures seen { IfOk result (HasSeen history.now.changes.items
+            (left_in earlier.now) present.now places) }
+        ensures rows { IfOk result AreRows }
+    {
+        let seen = seen_of(alloc, history, earlier, present, places)?;
+        let stays = stays_of(alloc, history, seen)?;
+        let lives = Lives::of(alloc, &stays)?;
+        let stretches = Stretches::of(alloc, &lives, &stays)?;
+        Ok(Changed {
+            stays,
+            lives,
+            stretches,
+        })
+    }
+}
+
+/// Whether the page of a stay hasn't gone by the release, and an access that begins with the release could reach its memory through that
+/// page. The row is the index of the stay.
+fn leads_in_row(
+    history: &History,
+    earlier: &[History],
+    space: &PlainSpace,
+    places: u32,
+    stays: &[Stay],
+    release: &Release,
+    row: usize,
+) -> bool
+    requires own { AreColumns history.now }
+    requires earlier { IsLadder earlier.now }
+    requires roomy { AreRoomy stays.now }
+    requires memory { IsMemory release.now.size release.now.phys }
+    ensures sound { (before : Option Run) (start : Space) (segment : Recording)
+        → IsFollowed before start segment history.now earlier.now
+        → space.now.space ≡ space_from start segment segment.log → places ≡ length segment.log
+        → IsTrue result → (page : PageRow) × LeadsThere before start segment release.now page }
+    ensures whole { (before : Option Run) (start : Space) (segment : Recording) (stay : StayRow)
+        → IsFollowed before start segment history.now earlier.now
+        → space.now.space ≡ space_from start segment segment.log → places ≡ length segment.log
+        → slice_get stays.now row ≡ Some stay → release.now.made ≤ stay.until
+        → LeadsSo start segment (left_in earlier.now) release.now stay.page → IsTrue result }
+{
+    let many = stays.len();
+    if row >= many {
+        return false;
+    }
+    let stay = stays[row];
+    let until = stay.until;
+    let made = release.made;
+    if until < made {
+        return false;
+    }
+    leads_there(history, earlier, space, places, release, stay.page)
+}
+
+/// Whether an access that begins with the release could reach its memory through a page that leads into this block then. It is
+/// compared with the pages that began to lead there by then and may still do so, from the last one back.
+fn leads_in_rows(
+    history: &History,
+    earlier: &[History],
+    space: &PlainSpace,
+    places: u32,
+    changed: &Changed,
+    release: &Release,
+    block: u64,
+) -> bool
+    requires own { AreColumns history.now }
+    requires earlier { IsLadder earlier.now }
+    requires rows { AreRows changed.now }
+    requires memory { IsMemory release.now.size release.now.phys }
+    ensures sound { (before : Option Run) (start : Space) (segment : Recording)
+        → IsFollowed before start segment history.now earlier.now
+        → space.now.space ≡ space_from start segment segment.log → places ≡ length segment.log
+        → IsTrue result → (page : PageRow) × LeadsThere before start segment release.now page }
+    ensures whole { (before : Option Run) (start : Space) (segment : Recording) (stay : StayRow)
+        → IsFollowed before start segment history.now earlier.now
+        → space.now.space ≡ space_from start segment segment.log → places ≡ length segment.log
+        → Contains changed.now.stays.items stay → IsBlockOf stay.page block
+        → stay.from ≤ release.now.made → release.now.made ≤ stay.until
+        → LeadsSo start segment (left_in earlier.now) release.now stay.page → IsTrue result }
+    ensures in_range { release.now.made < 2 ^ 32 }
+{
+    let lives = &changed.lives;
+    let stretches = &changed.stretches;
+    let made = release.made;
+    let mut end = lives.begun(block, made);
+    while end > 0 {
+        let last = end - 1;
+        let own = lives.blocks[last];
+        if own != block {
+            return false;
+        }
+        let until = stretches.until[last];
+        if until < made {
+            end = stretches.since[last];
+        } else {
+            let row = lives.rows[last];
+            if leads_in_row(
+                history,
+                earlier,
+                space,
+                places,
+                &changed.stays,
+                release,
+                row,
+            ) {
+                return true;
+            }
+            end = last;
+        }
+    }
+    false
+}
+
+/// Whether an access that begins with the release could reach its memory through one of the pages, as they were before changes or are
+/// after the log: four searches, and the pages that they find.
+pub(crate) fn leads_by_changes(
+    history: &History,
+    earlier: &[History],
+    space: &PlainSpace,
+    places: u32,
+    changed: &Changed,
+    release: &Release,
+) -> bool
+    requires own { AreColumns history.now }
+    requires earlier { IsLadder earlier.now }
+    requires rows { AreRows changed.now }
+    requires memory { IsMemory release.now.size release.now.phys }
+    ensures sound { (before : Option Run) (start : Space) (segment : Recording)
+        → IsFollowed before start segment history.now earlier.now
+        → space.now.space ≡ space_from start segment segment.log → places ≡ length segment.log
+        → IsTrue result → (page : PageRow) × LeadsThere before start segment release.now page }
+    ensures whole { (before : Option Run) (start : Space) (segment : Recording) (page : PageRow)
+        → IsFollowed before start segment history.now earlier.now
+        → space.now.space ≡ space_from start segment segment.log → places ≡ length segment.log
+        → HasStay changed.now.stays.items page release.now.made
+        → LeadsSo start segment (left_in earlier.now) release.now page → IsTrue result }
+    ensures in_range { release.now.made < 2 ^ 32 }
+{
+    let phys = release.phys;
+    let own = around(phys, release.size);
+    if leads_in_rows(history, earlier, space, places, changed, release, own) {
+        return true;
+    }
+    let small = whole(phys, Size::K4);
+    if leads_in_rows(history, earlier, space, places, changed, release, small) {
+        return true;
+    }
+    let large = whole(phys, Size::M2);
+    if leads_in_rows(history, earlier, space, places, changed, release, large) {
+        return true;
+    }
+    let huge = whole(phys, Size::G1);
+    leads_in_rows(history, earlier, space, places, changed, release, huge)
+}

@@ -1,0 +1,123 @@
+//! The pages that a touch of a segment may find: those that are there at its end, and those before its changes and the ones left before it.
+
+ghost use Rattle.std.specs.Prelude.{◌≡◌, ◌++◌, map, Contains, IfOk};
+ghost use Rattle.vs_types.specs.declared.page.Page.{Page as PageRow};
+ghost use Rattle.nr_touch.specs.inside.Columns.{AreColumns};
+ghost use Rattle.nr_touch.specs.inside.Reached.{seen_before, seen_left, seen_now, AreSeen, IsRoomy};
+ghost use Rattle.nr_touch.specs.inside.Levels.{left_in, IsLadder};
+
+use crate::changes::change::{PlacedChange, taken_at};
+use crate::changes::history::History;
+use std::alloc::Global;
+use vs_types::{Memory, Page};
+
+/// A page that a touch may find after so many entries of the log.
+#[derive(Clone, Copy, Debug)]
+pub(crate) struct Seen {
+    pub(crate) page: Page,
+    pub(crate) place: u32,
+    /// Whether it is there then: a page that is mapped next is not, nor one before a change that earlier segments left and that ends this.
+    pub(crate) there: bool,
+}
+
+fn seen_now(page: Page, places: u32) -> Seen
+    ensures { result ≡ seen_now places page }
+{
+    Seen {
+        page,
+        place: places,
+        there: true,
+    }
+}
+
+fn seen_before(placed: &PlacedChange) -> Seen
+    ensures { result ≡ seen_before placed.now }
+{
+    Seen {
+        page: placed.change.page,
+        place: placed.place,
+        there: placed.change.was_mapped,
+    }
+}
+
+fn seen_left(placed: &PlacedChange) -> Seen
+    ensures { result ≡ seen_left placed.now }
+{
+    let is_ended = taken_at(placed) < u32::MAX;
+    Seen {
+        page: placed.change.page,
+        place: 0,
+        there: placed.change.was_mapped && !is_ended,
+    }
+}
+
+/// The pages that are there after the whole log, of so many places.
+fn all_now(alloc: Global, present: &[Page], places: u32) -> Result<Vec<Seen>, Memory>
+    ensures { IfOk result (λ v. v.items ≡ map (seen_now places) present.now) }
+{
+    Ok(
+        present
+            .iter()
+            .map(|page| seen_now(*page, places))
+            .collect(alloc)?,
+    )
+}
+
+/// The pages before the changes of the segment.
+fn all_before(alloc: Global, changes: &[PlacedChange]) -> Result<Vec<Seen>, Memory>
+    ensures { IfOk result (λ v. v.items ≡ map seen_before changes.now) }
+{
+    Ok(changes.iter().map(|each| seen_before(each)).collect(alloc)?)
+}
+
+/// The pages before these changes that earlier segments left.
+fn all_of(alloc: Global, changes: &[PlacedChange]) -> Result<Vec<Seen>, Memory>
+    ensures { IfOk result (λ v. v.items ≡ map seen_left changes.now) }
+{
+    Ok(changes.iter().map(|each| seen_left(each)).collect(alloc)?)
+}
+
+/// The pages before all changes that earlier segments left.
+fn all_left(alloc: Global, levels: &[History]) -> Result<Vec<Seen>, Memory>
+    ensures { IfOk result (λ v. v.items ≡ map seen_left (left_in levels.now)) }
+{
+    let mut seen = Vec::new(alloc);
+    for level in levels {
+        let more = all_of(alloc, &level.changes)?;
+        seen = joined(seen, &more)?;
+    }
+    Ok(seen)
+}
+
+/// Some pages, and behind them others.
+fn joined(seen: Vec<Seen>, more: &[Seen]) -> Result<Vec<Seen>, Memory>
+    ensures { IfOk result (λ v. v.items ≡ seen.items ++ more.now) }
+{
+    let mut seen = seen;
+    seen.extend_from_slice(more)?;
+    Ok(seen)
+}
+
+/// Of so many pages that are there after the log of a segment, which has so many places, and of those before its changes and the ones
+/// left before it: each that a touch may find. Allocates 32 bytes for each of them; and as many again, which are freed, for each that a
+/// change is of.
+pub(crate) fn seen_of(
+    alloc: Global,
+    history: &History,
+    earlier: &[History],
+    present: &[Page],
+    places: u32,
+) -> Result<Vec<Seen>, Memory>
+    requires own { AreColumns history.now }
+    requires earlier { IsLadder earlier.now }
+    requires roomy { (page : PageRow) → Contains present.now page → IsRoomy page }
+    ensures { IfOk result (λ seen. AreSeen history.now.changes.items (left_in earlier.now)
+        present.now places seen.items) }
+{
+    let now = all_now(alloc, present, places)?;
+    let before = all_before(alloc, &history.changes)?;
+    let own = joined(now, &before)?;
+    let left = all_left(alloc, earlier)?;
+    let seen = joined(own, &left)?;
+    Ok(seen)
+}
