@@ -1,7 +1,8 @@
 /* Preloaded into the program: reads of standard input that fail, fall short or are interrupted, and writes that do. The read whose
    number, from 1, is in FAIL_READ gives an error; so does the one at the byte FAIL_AT, before which reads stop, and the write to
    standard output whose number is in FAIL_WRITE, after which writes pass again. No read gives more than SHORT_READ bytes, and no
-   write takes more than SHORT_WRITE. Each read or write that moves bytes comes after as many interrupted ones as INTERRUPTS says. */
+   write takes more than SHORT_WRITE. Each read or write that moves bytes comes after as many interrupted ones as INTERRUPTS says. Each
+   read, of any file, takes SLOW_READ microseconds more. */
 #define _GNU_SOURCE
 #include <errno.h>
 #include <stdatomic.h>
@@ -25,6 +26,8 @@ static int is_interrupted(void) {
 }
 
 ssize_t read(int file, void *buffer, size_t size) {
+    const char *slow = getenv("SLOW_READ");
+    if (slow) usleep(atol(slow));
     if (file != 0) return syscall(SYS_read, file, buffer, size);
     if (is_interrupted()) return fail(EINTR);
     const char *failing = getenv("FAIL_READ"), *at = getenv("FAIL_AT");

@@ -2,6 +2,8 @@
 """Runs a command whose standard error is a terminal, and whose standard input gives bytes slowly; prints what it shows there.
 
     on_terminal.py SECONDS FILE COMMAND..      FILE in ten parts, with so many seconds between them; ends with the status of the command
+
+With CLOSED_PIPE in the environment its standard output is a pipe that nobody reads.
 """
 import os
 import subprocess
@@ -13,11 +15,14 @@ PARTS = 10
 
 
 def feed(pipe, data, seconds):
-    for k in range(PARTS):
-        pipe.write(data[len(data) * k // PARTS:len(data) * (k + 1) // PARTS])
-        pipe.flush()
-        time.sleep(seconds)
-    pipe.close()
+    try:
+        for k in range(PARTS):
+            pipe.write(data[len(data) * k // PARTS:len(data) * (k + 1) // PARTS])
+            pipe.flush()
+            time.sleep(seconds)
+        pipe.close()
+    except BrokenPipeError:     # the command has read enough
+        pass
 
 
 def shown_on(terminal):
@@ -33,11 +38,19 @@ def shown_on(terminal):
         shown += piece
 
 
+def closed_pipe():
+    """The end of a pipe for who writes; the other one is closed."""
+    ours, theirs = os.pipe()
+    os.close(ours)
+    return theirs
+
+
 def main(seconds, path, command):
     ours, theirs = os.openpty()
     with open(path, "rb") as file:
         data = file.read()
-    run = subprocess.Popen(command, stdin=subprocess.PIPE, stdout=subprocess.DEVNULL, stderr=theirs)
+    output = closed_pipe() if "CLOSED_PIPE" in os.environ else subprocess.DEVNULL
+    run = subprocess.Popen(command, stdin=subprocess.PIPE, stdout=output, stderr=theirs)
     os.close(theirs)
     threading.Thread(target=feed, args=(run.stdin, data, seconds), daemon=True).start()
     shown = shown_on(ours)

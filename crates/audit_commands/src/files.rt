@@ -2,7 +2,7 @@
 
 ghost use Rattle.std.specs.Prelude.{◌≡◌, IfOk, List, None, Option, ℕ};
 
-use std::fs::File;
+use std::fs::{self, File};
 use std::io::{self, Read};
 
 /// Opens files by their names.
@@ -20,7 +20,14 @@ pub trait FilesByName {
     /// There is no such file, or it may not be read.
     fn open(&self, name: &str) -> io::Result<Self::Opened>
         ensures { IfOk result (λ file. Self.Opened.remaining file ≡ file_bytes self.now name.now) };
+
+    /// How many bytes the file of this name has, or standard input if none is named; `None` where that isn't known, as of a pipe. Only what
+    /// is shown of the progress depends on it.
+    fn size(&self, name: Option<&str>) -> Option<u64>;
 }
+
+/// The file that is standard input.
+const STANDARD_INPUT: &str = "/dev/stdin";
 
 /// The files of the host, of which no contract says what they have.
 impl FilesByName for HostRuntime {
@@ -30,5 +37,14 @@ impl FilesByName for HostRuntime {
 
     fn open(&self, name: &str) -> io::Result<File> {
         File::open(self, name)
+    }
+
+    fn size(&self, name: Option<&str>) -> Option<u64> {
+        let data = fs::metadata(self, name.unwrap_or(STANDARD_INPUT)).ok()?;
+        if data.is_file() {
+            Some(data.len())
+        } else {
+            None
+        }
     }
 }

@@ -1,5 +1,7 @@
 //! Standard error, and how far an audit has come there.
 
+use crate::diagnostics::Diagnostics;
+use crate::progress_line::Distance;
 use audit_readers::{Progress, write_text};
 use std::alloc::{AllocError, Global};
 use std::io::{self, Write};
@@ -15,16 +17,11 @@ pub struct Meter<C, E> {
     is_terminal: bool,
     /// When the audit began, if its progress is to be shown.
     begun: Option<Instant>,
+    /// How many bytes its input has, if that is known.
+    size: Option<u64>,
     /// How many seconds after that it was shown last; 0 if nothing is shown.
     shown: u64,
-    bytes: u64,
-    segments: u64,
-    calls: u64,
-}
-
-/// How many there were in each second; all of them if no second has passed.
-fn each_second(all: u64, seconds: u64) -> u64 {
-    all.checked_div(seconds).unwrap_or(all)
+    come: Distance,
 }
 
 impl<C: Clock, E: Write> Meter<C, E> {
@@ -36,24 +33,20 @@ impl<C: Clock, E: Write> Meter<C, E> {
             errors,
             is_terminal,
             begun: None,
+            size: None,
             shown: 0,
-            bytes: 0,
-            segments: 0,
-            calls: 0,
+            come: Distance {
+                bytes: 0,
+                segments: 0,
+                calls: 0,
+            },
         }
     }
 
-    /// What is shown after so many seconds.
+    /// What is written after so many seconds. A terminal cuts the line where its row ends, so that the next one covers it.
     fn line(&self, seconds: u64) -> Result<String, AllocError> {
-        let bytes = self.bytes / 1_000_000;
-        let bytes_each = each_second(self.bytes, seconds) / 1_000_000;
-        let segments = self.segments;
-        let segments_each = each_second(segments, seconds);
-        let calls = self.calls;
-        let calls_each = each_second(calls, seconds);
-        format!(in self.alloc;
-            "\x1b[K{bytes} MB, {segments} segments, {calls} calls; {bytes_each} MB, {segments_each} segments, {calls_each} calls a second\r"
-        )
+        let line = self.come.line(self.alloc, seconds, self.size)?;
+        format!(in self.alloc; "\x1b[K\x1b[?7l{line}\x1b[?7h\r")
     }
 
     /// Shows what there is after so many seconds, if there is memory for it.
@@ -74,14 +67,15 @@ impl<C: Clock, E: Write> Meter<C, E> {
 }
 
 impl<C: Clock, E: Write> Progress for Meter<C, E> {
-    fn start(&mut self) {
+    fn start(&mut self, size: Option<u64>) {
         if self.is_terminal {
             self.begun = Instant::now(&self.clock).ok();
+            self.size = size;
         }
     }
 
     fn read(&mut self, bytes: usize) {
-        self.bytes = self.bytes.saturating_add(bytes as u64);
+        self.come.bytes = self.come.bytes.saturating_add(bytes as u64);
         let Some(begun) = self.begun else {
             return;
         };
@@ -94,8 +88,8 @@ impl<C: Clock, E: Write> Progress for Meter<C, E> {
     }
 
     fn right(&mut self, calls: usize) {
-        self.segments = self.segments.saturating_add(1);
-        self.calls = self.calls.saturating_add(calls as u64);
+        self.come.segments = self.come.segments.saturating_add(1);
+        self.come.calls = self.come.calls.saturating_add(calls as u64);
     }
 
     fn end(&mut self) {
@@ -105,11 +99,21 @@ impl<C: Clock, E: Write> Progress for Meter<C, E> {
 }
 
 impl<C: Clock, E: Write> Write for Meter<C, E> {
+    ghost contents = { λ meter. E.contents meter.errors };
+
     fn write(&mut self, bytes: &[u8]) -> io::Result<usize> {
         self.errors.write(bytes)
     }
 
     fn flush(&mut self) -> io::Result<()> {
         self.errors.flush()
+    }
+}
+
+impl<C: Clock, E: Write> Diagnostics for Meter<C, E> {
+    ghost is_seen = { λ meter. meter.is_terminal };
+
+    fn is_terminal(&self) -> bool {
+        self.is_terminal
     }
 }

@@ -1,11 +1,14 @@
 //! How a program ends: what it writes where there is no answer, and its status.
 
-ghost use Rattle.std.specs.Prelude.{◌≡◌, ◌≢◌, IfErr, IfOk};
+ghost use Rattle.std.specs.Prelude.{◌≡◌, ◌≢◌, IfErr, IfOk, None, OnOk, false};
+ghost use Rattle.std.specs.Io.KnownBytes.{Appends};
 ghost use Rattle.clap.specs.Words.{kind_of};
-ghost use Rattle.audit_readers.specs.Refusals.{exit_status, refusal_status};
+ghost use Rattle.audit_readers.specs.Refusals.{exit_status, refusal_line, refusal_status};
 ghost use Rattle.audit_commands.specs.Tasks.{is_shown, TellsRefusal};
 
-use audit_readers::{ProgFault, write_text};
+use crate::diagnostics::Diagnostics;
+use crate::remarks::{remark, try_text};
+use audit_readers::{ProgFault, Sink, write_text};
 use clap::Error;
 use clap::error::ErrorKind;
 use std::alloc::{AllocError, Global};
@@ -55,59 +58,100 @@ pub fn exit_status(outcome: Result<u8, ProgFault>) -> u8
     }
 }
 
-/// The words of an input that can't be read, and why.
-fn unread_line(alloc: Global, error: io::Error) -> Result<String, AllocError> {
-    format!(in alloc; "cannot read: {error}\n")
+/// Why a read failed, as the system says it.
+fn reason_text(alloc: Global, error: io::Error) -> Result<String, AllocError> {
+    format!(in alloc; "{error}")
 }
 
-/// Writes a text to the errors, where they can be written to.
-fn try_text<E: Write>(text: &str, errors: &mut E) {
-    let _ = write_text(errors, text.as_bytes());
+/// Writes that the output couldn't be written to, but on a terminal not where nobody reads it any more: who ends a pipe knows.
+fn tell_unwritten<W: Sink, E: Diagnostics>(
+    fault: &ProgFault,
+    output: &W,
+    errors: &mut E,
+) -> Result<(), ProgFault>
+    ensures { E.is_seen errors.old ≡ false → OnOk result
+        (Appends (E.contents errors.old) (E.contents errors.new) (refusal_line fault.now)) }
+{
+    if errors.is_terminal() && output.is_closed() {
+        return Ok(());
+    }
+    fault.tell(errors)
 }
 
-/// Writes a fault to the errors, and behind `cannot read` the error that the input gave, where memory for it is there.
-fn tell_fault<E: Write>(
+/// Writes a fault of standard input: its words alone. Where the errors are a terminal, the error of an input that can't be read is a
+/// further line.
+fn tell_alone<E: Diagnostics>(
     alloc: Global,
     fault: &ProgFault,
     reason: Option<io::Error>,
     errors: &mut E,
-) {
+) -> Result<(), ProgFault>
+    ensures { E.is_seen errors.old ≡ false → OnOk result
+        (Appends (E.contents errors.old) (E.contents errors.new) (refusal_line fault.now)) }
+{
+    if !errors.is_terminal() {
+        return fault.tell(errors);
+    }
+    fault.tell(errors)?;
     if let (ProgFault::CannotRead, Some(error)) = (fault, reason) {
-        if let Ok(line) = unread_line(alloc, error) {
-            return try_text(line.as_str(), errors);
+        if let Ok(text) = reason_text(alloc, error) {
+            remark(None, text.as_str(), errors);
         }
     }
-    let _ = fault.tell(errors);
+    Ok(())
 }
 
-/// Writes to the errors why there is no answer, where there is none: what that is about, a file or a word, if it is not the output that
-/// failed; the fault; and the error of an input that can't be read.
-pub fn tell_outcome<E: Write>(
+/// Writes a fault of a named file behind its name, and behind `cannot read` the error that the file gave, where memory for it is there.
+fn tell_named<E: Diagnostics>(
     alloc: Global,
-    outcome: &Result<u8, ProgFault>,
-    about: Option<&str>,
+    fault: &ProgFault,
+    name: &str,
     reason: Option<io::Error>,
     errors: &mut E,
-) {
-    if let Err(fault) = outcome {
-        match about {
-            Some(about) if !matches!(fault, ProgFault::CannotWrite) => {
-                try_text(about, errors);
-                try_text(": ", errors);
-            }
-            _ => {}
+) -> Result<(), ProgFault> {
+    write_text(errors, name.as_bytes())?;
+    write_text(errors, b": ")?;
+    if let (ProgFault::CannotRead, Some(error)) = (fault, reason) {
+        if let Ok(text) = reason_text(alloc, error) {
+            write_text(errors, b"cannot read: ")?;
+            write_text(errors, text.as_bytes())?;
+            return write_text(errors, b"\n");
         }
-        tell_fault(alloc, fault, reason, errors);
     }
+    fault.tell(errors)
 }
 
-/// Writes to the errors a remark on an input, behind the name of its file, if it has one.
-pub(crate) fn remark<E: Write>(name: Option<&str>, text: &str, errors: &mut E) {
-    if let Some(name) = name {
-        try_text(name, errors);
-        try_text(": ", errors);
+/// Writes to the errors why there is no answer, where there is none. Of standard input the words of the fault are a line alone. Of a named
+/// file they come behind its name, and `cannot read` has the error of the file behind it. `bad address` is alone in both cases. What
+/// else helps a person is a line of its own: `remark` says when.
+///
+/// # Errors
+///
+/// `CannotWrite` where the errors couldn't be written to.
+pub fn tell_outcome<W: Sink, E: Diagnostics>(
+    alloc: Global,
+    outcome: &Result<u8, ProgFault>,
+    name: Option<&str>,
+    reason: Option<io::Error>,
+    output: &W,
+    errors: &mut E,
+) -> Result<(), ProgFault>
+    ensures alone { IfErr outcome.now (λ fault. name.entry ≡ None → E.is_seen errors.old ≡ false
+        → OnOk result
+        (Appends (E.contents errors.old) (E.contents errors.new) (refusal_line fault))) }
+    ensures address { IfErr outcome.now (λ fault. fault ≡ ProgFault.BadAddress
+        → E.is_seen errors.old ≡ false → OnOk result
+        (Appends (E.contents errors.old) (E.contents errors.new) (refusal_line fault))) }
+{
+    match outcome {
+        Ok(_) => Ok(()),
+        Err(ProgFault::CannotWrite) => tell_unwritten(&ProgFault::CannotWrite, output, errors),
+        Err(ProgFault::BadAddress) => tell_alone(alloc, &ProgFault::BadAddress, None, errors),
+        Err(fault) => match name {
+            None => tell_alone(alloc, fault, reason, errors),
+            Some(name) => tell_named(alloc, fault, name, reason, errors),
+        },
     }
-    try_text(text, errors);
 }
 
 /// The status of a file that has no line; that the output failed is passed on.

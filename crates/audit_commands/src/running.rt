@@ -6,20 +6,39 @@ ghost use Rattle.audit_readers.specs.Refusals.{WritesAnswersAlone};
 ghost use Rattle.audit_commands.specs.Tasks.{AuditsEach, AuditsOne, RunsInspection};
 ghost use Rattle.audit_commands.specs.Tasks.{RunsTask, RunsTaskOnFile, WritesLine};
 
+use crate::diagnostics::Diagnostics;
 use crate::files::FilesByName;
 use crate::inspection::Inspection;
-use crate::refusal::{refused_status, remark, tell_outcome};
-use crate::task::{CHAIN, IS_CHAIN, Task};
-use audit_readers::{Input, ProgFault, Progress, named_audit_io};
+use crate::refusal::{refused_status, tell_outcome};
+use crate::remarks::{remark, remark_address};
+use crate::task::Task;
+use audit_readers::{Input, ProgFault, Sink, named_audit_io};
 use std::alloc::Global;
-use std::io::{Read, Write};
+use std::io::Read;
 
-/// Does the task on an input, and says on the errors why it has no answer, and that it begins as a chain and is no trace, or as a trace and
-/// is no chain.
-fn run_task<R: Read, W: Write, E: Write + Progress>(
+/// Says on the errors what an input is, if it is none of those that the task reads; but not where the output failed.
+fn remark_form<R, E: Diagnostics>(
+    task: Task<'_>,
+    outcome: &Result<u8, ProgFault>,
+    name: Option<&str>,
+    input: &Input<R>,
+    errors: &mut E,
+) {
+    if matches!(outcome, Err(ProgFault::CannotWrite)) {
+        return;
+    }
+    if let Some(text) = task.remark(input.form()) {
+        remark(name, text, errors);
+    }
+}
+
+/// Does the task on an input, and says on the errors why it has no answer, and what the input is, if it is none of those that the task
+/// reads. The size is that of an input that is watched.
+fn run_task<R: Read, W: Sink, E: Diagnostics>(
     alloc: Global,
     task: Task<'_>,
     name: Option<&str>,
+    size: Option<u64>,
     input: &mut Input<R>,
     output: &mut W,
     errors: &mut E,
@@ -27,26 +46,30 @@ fn run_task<R: Read, W: Write, E: Write + Progress>(
     ensures { RunsTask task.entry (R.remaining input.old.reader) W.contents output.old output.new
         result }
 {
-    let word = task.word();
-    let (magic, text) = task.other_form();
     if task.is_watched() {
-        errors.start();
+        errors.start(size);
     }
     let outcome = task.run(alloc, input, output, errors);
     errors.end();
-    let about = match outcome {
-        Err(ProgFault::BadAddress) => word,
-        _ => name,
-    };
-    tell_outcome(alloc, &outcome, about, input.error(), errors);
-    if input.begins_with(magic) {
-        remark(name, text, errors);
+    let _ = tell_outcome(alloc, &outcome, name, input.error(), &*output, errors);
+    if let (Err(ProgFault::BadAddress), Some(word)) = (&outcome, task.word()) {
+        remark_address(alloc, name, word, errors);
     }
+    remark_form(task, &outcome, name, &*input, errors);
     outcome
 }
 
+/// How many bytes the input of a task has that is watched, if that is known.
+fn watched_size<F: FilesByName>(files: &F, task: Task<'_>, name: Option<&str>) -> Option<u64> {
+    if task.is_watched() {
+        files.size(name)
+    } else {
+        None
+    }
+}
+
 /// Does the task on the file of this name.
-fn run_on_file<F: FilesByName, W: Write, E: Write + Progress>(
+fn run_on_file<F: FilesByName, W: Sink, E: Diagnostics>(
     files: &F,
     alloc: Global,
     task: Task<'_>,
@@ -60,19 +83,20 @@ fn run_on_file<F: FilesByName, W: Write, E: Write + Progress>(
     match files.open(name) {
         Ok(file) => {
             let mut input = Input::new(file);
-            run_task(alloc, task, Some(name), &mut input, output, errors)
+            let size = watched_size(files, task, Some(name));
+            run_task(alloc, task, Some(name), size, &mut input, output, errors)
         }
         Err(error) => {
             let outcome = Err(ProgFault::CannotRead);
-            tell_outcome(alloc, &outcome, Some(name), Some(error), errors);
+            let _ = tell_outcome(alloc, &outcome, Some(name), Some(error), &*output, errors);
             outcome
         }
     }
 }
 
-/// Audits one of several inputs, and writes its line; says on the errors why it has none, but where the output failed, and that it begins
-/// as a chain.
-fn write_own_line<R: Read, W: Write, E: Write>(
+/// Audits one of several inputs, and writes its line; says on the errors why it has none, but where the output failed, and what the input
+/// is, if it is no trace.
+fn write_own_line<R: Read, W: Sink, E: Diagnostics>(
     alloc: Global,
     as_json: bool,
     name: &str,
@@ -86,16 +110,14 @@ fn write_own_line<R: Read, W: Write, E: Write>(
 {
     let outcome = named_audit_io(alloc, input, output, name, as_json);
     if !matches!(outcome, Err(ProgFault::CannotWrite)) {
-        tell_outcome(alloc, &outcome, Some(name), input.error(), errors);
+        let _ = tell_outcome(alloc, &outcome, Some(name), input.error(), &*output, errors);
     }
-    if input.begins_with(CHAIN) {
-        remark(Some(name), IS_CHAIN, errors);
-    }
+    remark_form(Task::Audit(as_json), &outcome, Some(name), &*input, errors);
     outcome
 }
 
 /// Audits the file of this name, and writes its line.
-fn write_line<F: FilesByName, R: Read, W: Write, E: Write>(
+fn write_line<F: FilesByName, R: Read, W: Sink, E: Diagnostics>(
     files: &F,
     alloc: Global,
     as_json: bool,
@@ -117,14 +139,14 @@ fn write_line<F: FilesByName, R: Read, W: Write, E: Write>(
         }
         Err(error) => {
             let outcome = Err(ProgFault::CannotRead);
-            tell_outcome(alloc, &outcome, Some(name), Some(error), errors);
+            let _ = tell_outcome(alloc, &outcome, Some(name), Some(error), &*output, errors);
             outcome
         }
     }
 }
 
 /// Audits one of several files, and writes its line; why it has none is written to the errors. Gives its status.
-fn audit_one<F: FilesByName, R: Read, W: Write, E: Write>(
+fn audit_one<F: FilesByName, R: Read, W: Sink, E: Diagnostics>(
     files: &F,
     alloc: Global,
     as_json: bool,
@@ -145,7 +167,7 @@ fn audit_one<F: FilesByName, R: Read, W: Write, E: Write>(
 }
 
 /// Audits each of the files. The status is the worst of theirs.
-fn audit_each<F: FilesByName, R: Read, W: Write, E: Write>(
+fn audit_each<F: FilesByName, R: Read, W: Sink, E: Diagnostics>(
     files: &F,
     alloc: Global,
     as_json: bool,
@@ -167,15 +189,15 @@ fn audit_each<F: FilesByName, R: Read, W: Write, E: Write>(
     Ok(worst)
 }
 
-/// Makes the inspection, of standard input or of the files that are named. If there is no answer, the reason is written to the errors,
-/// behind the name of the file or the word that is wrong, and with the error of an input that can't be read. A line there also says that
-/// a chain was read as a trace, or a trace as a chain. How far the audit of a chain has come is shown there too. The files are taken one after the other, each in the memory that its task needs.
+/// Makes the inspection, of standard input or of the files that are named. If there is no answer, the reason is written to the errors, as
+/// `tell_outcome` says, and then what else helps a person, as `remark` says. How far the audit of a chain has come is shown there too. The
+/// files are taken one after the other, each in the memory that its task needs.
 ///
 /// # Errors
 ///
 /// One input: `CannotRead` if the file couldn't be opened, and those of `Task::run`. Several files:
 /// `CannotWrite`.
-pub fn run_inspection<F: FilesByName, R: Read, W: Write, E: Write + Progress>(
+pub fn run_inspection<F: FilesByName, R: Read, W: Sink, E: Diagnostics>(
     files: &F,
     alloc: Global,
     inspection: Inspection<'_>,
@@ -187,12 +209,15 @@ pub fn run_inspection<F: FilesByName, R: Read, W: Write, E: Write + Progress>(
         (R.remaining input.old.reader) W.contents output.old output.new result }
 {
     match inspection {
-        Inspection::One(task, None) => run_task(alloc, task, None, input, output, errors),
+        Inspection::One(task, None) => {
+            let size = watched_size(files, task, None);
+            run_task(alloc, task, None, size, input, output, errors)
+        }
         Inspection::One(task, Some(name)) => run_on_file(files, alloc, task, name, output, errors),
         Inspection::Each(as_json, names) => {
             let names = names.as_slice();
             let outcome = audit_each(files, alloc, as_json, names, input, output, errors);
-            tell_outcome(alloc, &outcome, None, None, errors);
+            let _ = tell_outcome(alloc, &outcome, None, None, &*output, errors);
             outcome
         }
     }

@@ -1,23 +1,18 @@
 //! What can be asked of one trace or of one chain, and which engine answers it.
 
 use audit_readers::{
-    ProgFault, Progress, Source, audit_chain_io, audit_io, chain_end_io, chain_start_io,
+    Form, ProgFault, Progress, Source, audit_chain_io, audit_io, chain_end_io, chain_start_io,
     explain_all_io, explain_chain_io, explain_io, pages_io, resolve_io,
 };
 use audit_texts::Style;
 use std::alloc::Global;
 use std::io::Write;
 
-/// How a chain begins, and how a trace does.
-pub(crate) const CHAIN: &[u8; 4] = b"NRVS";
+const IS_CHAIN: &str = "this is a chain: use --chain";
 
-const TRACE: &[u8; 4] = b"NRVT";
+const IS_TRACE: &str = "this is a trace: leave out --chain";
 
-pub(crate) const IS_CHAIN: &str = "this is a chain: use --chain\n";
-
-const IS_TRACE: &str = "this is a trace: leave out --chain\n";
-
-const NO_TRACE: &str = "this is a chain, and resolve reads traces\n";
+const NO_TRACE: &str = "this is a chain, and resolve reads traces";
 
 /// The end of a chain whose pages are listed.
 #[derive(Clone, Copy, Debug)]
@@ -29,7 +24,7 @@ pub enum ChainPoint {
 }
 
 /// What can be asked of one trace or of one chain.
-#[derive(Debug, Drop)]
+#[derive(Clone, Copy, Debug)]
 pub enum Task<'a> {
     /// Judge a trace; as JSON.
     Audit(bool),
@@ -59,14 +54,25 @@ impl<'a> Task<'a> {
         }
     }
 
-    /// How an input of the other form begins, and what is said of it.
-    pub(crate) fn other_form(&self) -> (&'static [u8; 4], &'static str) {
-        match self {
-            Task::Audit(_) | Task::Explain(_, _) | Task::Pages(_, _) => (CHAIN, IS_CHAIN),
-            Task::Resolve(_, _, _) => (CHAIN, NO_TRACE),
-            Task::AuditChain(_, _) | Task::ExplainChain(_) | Task::PagesOfChain(_, _) => {
-                (TRACE, IS_TRACE)
-            }
+    /// Whether it reads a chain, and not a trace.
+    fn reads_chain(&self) -> bool {
+        matches!(
+            self,
+            Task::AuditChain(_, _) | Task::ExplainChain(_) | Task::PagesOfChain(_, _)
+        )
+    }
+
+    /// What is said of an input of this form, if it is none that the task reads.
+    pub(crate) fn remark(&self, form: Form) -> Option<&'static str> {
+        match form {
+            Form::Empty => Some("the input is empty"),
+            Form::Gzip => Some("this is compressed: unpack it with gzip -dc"),
+            Form::Xz => Some("this is compressed: unpack it with xz -dc"),
+            Form::Text => Some("this is text, and no recording of a run"),
+            Form::Trace if self.reads_chain() => Some(IS_TRACE),
+            Form::Chain if matches!(self, Task::Resolve(_, _, _)) => Some(NO_TRACE),
+            Form::Chain if !self.reads_chain() => Some(IS_CHAIN),
+            Form::Trace | Form::Chain | Form::Unknown => None,
         }
     }
 

@@ -43,7 +43,7 @@ pub record ShowsEnd (as_ranges : Bool) (bytes text : List ℕ) (status : ℕ) : 
   pub text_is : text ≡ pages_text as_ranges (pages (end_of last))
   pub status_is : status ≡ 0
 
--- where a part gives memory away, no address may still be found to look otherwise behind the run before it
+-- where a part gives memory away, each page that may still be found behind the run before it leads where the page does that is there
 abbrev pub IsSettledBefore : Run → List ℕ → Type 0
 IsSettledBefore end back = (segments : List Recording) → SpellAll None back segments → HaveReleases segments → IsSettled end
 

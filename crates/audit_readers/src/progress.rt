@@ -2,8 +2,8 @@
 
 /// What gets how far the audit of a chain has come. What is printed of the chain doesn't depend on it.
 pub trait Progress {
-    /// An audit begins that is to be watched.
-    fn start(&mut self);
+    /// An audit begins that is to be watched, of an input with so many bytes, if their number is known.
+    fn start(&mut self, size: Option<u64>);
 
     /// So many bytes more were read.
     fn read(&mut self, bytes: usize);
@@ -20,7 +20,7 @@ pub trait Progress {
 pub struct Unwatched;
 
 impl Progress for Unwatched {
-    fn start(&mut self) {}
+    fn start(&mut self, _size: Option<u64>) {}
 
     fn read(&mut self, _bytes: usize) {}
 

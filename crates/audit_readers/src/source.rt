@@ -3,7 +3,11 @@
 ghost use Rattle.std.specs.Prelude.{◌≡◌, Ok};
 ghost use Rattle.std.specs.Result.{result_err, result_ok};
 
+use crate::form::{Form, form_of};
 use std::io::{self, Read};
+
+/// So many bytes at the front say what an input is.
+const HEAD: usize = 6;
 
 /// A reader of which it is known what its last read gave.
 pub trait Source: Read {
@@ -26,14 +30,15 @@ pub trait Source: Read {
         ensures last { last_read self.new ≡ result_ok result };
 }
 
-/// A reader that notes what its last read gave, and the first four bytes.
+/// A reader that notes what its last read gave, its first six bytes, and whether it has ended.
 #[derive(Drop)]
 pub struct Input<R> {
     pub reader: R,
     last: io::Result<usize>,
-    head: [u8; 4],
+    head: [u8; HEAD],
     /// How many bytes of the head have been read.
     known: usize,
+    ended: bool,
 }
 
 impl<R> Input<R> {
@@ -45,8 +50,9 @@ impl<R> Input<R> {
         Input {
             reader,
             last: Ok(0),
-            head: [0; 4],
+            head: [0; HEAD],
             known: 0,
+            ended: false,
         }
     }
 
@@ -57,18 +63,21 @@ impl<R> Input<R> {
         self.last.err()
     }
 
-    /// Whether its first four bytes are these.
-    pub fn begins_with(&self, magic: &[u8; 4]) -> bool {
-        self.known == 4 && self.head == *magic
+    /// What it is, by its first bytes.
+    pub fn form(&self) -> Form {
+        if self.ended && self.known == 0 {
+            return Form::Empty;
+        }
+        form_of(&self.head[..self.known.min(HEAD)])
     }
 
-    /// Keeps bytes that were read, if they are among the first four.
+    /// Keeps bytes that were read, if they are among the first six.
     fn note(&mut self, bytes: &[u8])
         ensures reader { self.new.reader ≡ self.old.reader }
         ensures last { self.new.last ≡ self.old.last }
     {
         for byte in bytes {
-            if self.known >= 4 {
+            if self.known >= HEAD {
                 return;
             }
             self.head[self.known] = *byte;
@@ -91,6 +100,7 @@ impl<R: Read> Source for Input<R> {
     fn read_some(&mut self, block: &mut [u8]) -> io::Result<usize> {
         self.last = self.reader.read(block);
         if let Ok(count) = self.last {
+            self.ended = count == 0;
             self.note(&block[..count]);
         }
         self.last

@@ -1,6 +1,7 @@
 //! The reader of scripts: what each thread asks, and the steps of a schedule.
 #![tactic(auto)]
 
+mod bad_lines;
 pub mod examples;
 mod gathering;
 pub mod laws;
@@ -13,6 +14,7 @@ mod reading;
 mod script;
 mod step;
 
+pub use bad_lines::why_bad;
 pub use line::Line;
 pub use line_feed::{Fed, LineFeed};
 pub use portion::PortionFeed;

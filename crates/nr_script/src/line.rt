@@ -35,7 +35,7 @@ fn parse_asked(depth: Depth, words: &[&[u8]]) -> Option<(u16, Request)>
     Some((u16::from(thread), request))
 }
 
-fn is_step(word: &[u8]) -> bool
+pub(crate) fn is_step(word: &[u8]) -> bool
     ensures { IsTrue result ↔ (word.now ≡ codes "step") }
 {
     matches!(word, b"step")

@@ -9,6 +9,7 @@ mod runs;
 mod words;
 
 use audit_commands::{Meter, program_words};
+use audit_readers::Output;
 use std::io::{self, IsTerminal};
 use std::process::ExitCode;
 
@@ -16,7 +17,7 @@ fn main(rt: HostRuntime) -> ExitCode {
     let alloc = rt.alloc();
     let words = program_words(&rt);
     let asked = words::read_program_words(alloc, &words);
-    let mut output = io::writer(&rt);
+    let mut output = Output::new(io::writer(&rt));
     let errors = rt.stderr();
     let is_terminal = errors.is_terminal();
     let mut errors = Meter::new(alloc, &rt, errors, is_terminal);

@@ -3,15 +3,15 @@
 ghost use Rattle.audit_commands.specs.Tasks.{EndsWith, Runs, RunsInspection};
 
 use audit_commands::{
-    FilesByName, Inspection, exit_status, run_inspection, tell_outcome, tell_refusal,
+    Diagnostics, FilesByName, Inspection, exit_status, run_inspection, tell_outcome, tell_refusal,
 };
-use audit_readers::{Input, ProgFault, Progress};
+use audit_readers::{Input, ProgFault, Sink};
 use clap::Error;
 use std::alloc::Global;
-use std::io::{Read, Write};
+use std::io::Read;
 
 /// Makes the inspection that was asked for.
-fn try_run<F: FilesByName, R: Read + Drop, W: Write, E: Write + Progress>(
+fn try_run<F: FilesByName, R: Read + Drop, W: Sink, E: Diagnostics>(
     files: &F,
     alloc: Global,
     asked: Result<Inspection<'_>, Error>,
@@ -27,14 +27,14 @@ fn try_run<F: FilesByName, R: Read + Drop, W: Write, E: Write + Progress>(
         Ok(inspection) => run_inspection(files, alloc, inspection, &mut input, output, errors),
         Err(refusal) => {
             let outcome = tell_refusal(alloc, refusal, output, errors);
-            tell_outcome(alloc, &outcome, None, None, errors);
+            let _ = tell_outcome(alloc, &outcome, None, None, &*output, errors);
             outcome
         }
     }
 }
 
 /// The whole program over what its words ask for and its three ends: gives the exit status.
-pub fn run<F: FilesByName, R: Read + Drop, W: Write, E: Write + Progress>(
+pub fn run<F: FilesByName, R: Read + Drop, W: Sink, E: Diagnostics>(
     files: &F,
     alloc: Global,
     asked: Result<Inspection<'_>, Error>,
