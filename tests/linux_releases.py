@@ -17,7 +17,7 @@ from chain_bytes import RELEASE
 from convert import Options
 from counting import check
 from debian import Missing
-from kernel_image import FLUSHERS, NESTED_FLUSHERS, Kernel
+from kernel_image import BATCH_FLUSHERS, FLUSHERS, NESTED_FLUSHERS, Kernel
 from linux_kernels import made_types
 from plants import PLANTS, Silenced
 from recording import ALL, DONE, MAP, READS, REMOVED, UNMAP, call, reply
@@ -39,6 +39,7 @@ UPDATES = 8                 # the first thread of updates
 PC = "ffffffff81000000"
 UNMAPPED = f"@store 0 a0 1 {PC} 13 5 9067 0\n"
 FLUSHED, IN_USER = "@flushed 0 a0 5000 6000\n", "@user 0 a0\n"
+BEGUN, OTHERS = "@flushing 0 b0 1\n", "@flushed 0 b0 5000 6000\n"      # by another task
 RELEASED = f"@released 1 a0 {PC} 9 1\n"
 SEEN = "@access 2 c0 u r 5000 9000 401000\n"
 
@@ -127,7 +128,7 @@ def check_verdicts() -> None:
     check_verdict("one whose task is in user mode again", UNMAPPED + IN_USER + RELEASED, "segments 1")
     check_verdict("the same before its flush", UNMAPPED + RELEASED + FLUSHED, "segment 0/no 25 Reachable 1")
     check_verdict("the same without one", UNMAPPED + RELEASED, "segment 0/no 25 Reachable 1")
-    check_verdict("another's flush", UNMAPPED + FLUSHED.replace("a0", "b0") + RELEASED, "segment 0/no 25 Reachable 1")
+    check_verdict("another's flush", UNMAPPED + OTHERS + RELEASED, "segment 0/no 25 Reachable 1")
     check_verdict("a flush elsewhere", UNMAPPED + FLUSHED.replace("5000 6000", "6000 7000") + RELEASED, "segment 0/no 25 Reachable 1")
     check_verdict("a page that is still mapped", RELEASED, "segment 0/no 25 Reachable 0")
     check_verdict("one that another address leads to", UNMAPPED + FLUSHED + again + RELEASED, "segment 0/no 25 Reachable 4")
@@ -138,6 +139,32 @@ def check_verdicts() -> None:
     check_verdict("the same where the memory is given away", UNMAPPED + SEEN + RELEASED, "segment 0/no 25 Reachable 3")
     check_verdict("a chain is cut behind that", UNMAPPED + RELEASED + again, "segment 0/no 25 Reachable 1", Options(chain=1))
     check_verdict("a release in a later segment", UNMAPPED + FLUSHED + again + RELEASED, "segment 2/no 25 Reachable 0", Options(chain=1))
+
+
+def check_flushes_of_others() -> None:
+    """A flush by all processors is over for what any task stored before it began, where the log says when it did."""
+    reachable = "segment 0/no 25 Reachable 1"
+    check_verdict("one that began behind the store", UNMAPPED + BEGUN + OTHERS + RELEASED, "segments 1")
+    check_verdict("one that began before it", BEGUN + UNMAPPED + OTHERS + RELEASED, reachable)
+    check_verdict("one that isn't over", UNMAPPED + BEGUN + RELEASED + OTHERS, reachable)
+    check_verdict("one of other addresses", UNMAPPED + BEGUN + OTHERS.replace("5000 6000", "6000 7000") + RELEASED, reachable)
+    check_verdict("one by some processors alone", UNMAPPED + BEGUN.replace(" 1\n", " 0\n") + OTHERS + RELEASED, reachable)
+    check_verdict("one that began as another did, which is over", UNMAPPED + BEGUN + OTHERS.replace("5000 6000", "6000 7000") + OTHERS
+                  + RELEASED, reachable)
+    check_verdict("one that begins anew behind the store", BEGUN + UNMAPPED + BEGUN + OTHERS + RELEASED, "segments 1")
+    check_verdict("one of an address space that isn't this, and one by some processors", UNMAPPED + BEGUN + BEGUN.replace(" 1\n", " 0\n")
+                  + OTHERS + RELEASED, reachable)
+    check_verdict("an access behind it", UNMAPPED + BEGUN + OTHERS + SEEN, "segment 0/no 24 Stale 2")
+    large = f"@store 0 a0 1 {PC} 12 1 0 4000e7\n@store 0 a0 1 {PC} 12 1 4000e7 0\n" + BEGUN
+    given = RELEASED.replace(" 9 1", " 400 1")
+    part = OTHERS.replace("5000 6000", "200000 201000")
+    check_verdict("one of a part of a large page", large + part + given, "segment 0/no 25 Reachable 3")
+    check_verdict("one of all of it", large + OTHERS.replace("5000 6000", "200000 400000") + given, "segments 1")
+    twice = UNMAPPED + f"@store 0 a0 1 {PC} 13 5 0 8067\n" + BEGUN + f"@store 0 a0 1 {PC} 13 5 8067 0\n" + OTHERS
+    check_verdict("of two unmaps the first is over", twice + RELEASED, "segments 1")
+    check_verdict("and the second isn't", twice + RELEASED.replace(" 9 1", " 8 1"), "segment 0/no 25 Reachable 5")
+    found = converted(UNMAPPED + BEGUN + OTHERS)
+    check("who flushed is said", "\tflushed by another task on processor 0\t" in found.calls().splitlines()[0], found.calls())
 
 
 def check_shown() -> None:
@@ -165,9 +192,10 @@ def check_shown() -> None:
 LOGS = (("given", "segments 17", "segments 16"), ("planted-gather", "segment 1/no 25 Reachable 850", "segments 2"),
         ("planted-reclaim", "segment 1/no 25 Reachable 1865", "segments 3"),
         ("planted-reclaim-large", "segment 2/no 25 Reachable 2656", "segments 4"),
-        ("planted-merge", "segment 0/no 25 Reachable 1310", "segments 1"),
-        ("planted-migrate", "segment 8/no 25 Reachable 1358", "segments 9"),
-        ("kvm-pair-given", "segments 3", "segments 3"), ("planted-kvm-notify", "segment 2/no 25 Reachable 1096", "segments 4"))
+        ("planted-merge", "segment 0/no 25 Reachable 1313", "segments 1"),
+        ("planted-migrate", "segment 8/no 25 Reachable 1359", "segments 9"),
+        ("kvm-pair-given", "segments 3", "segments 3"), ("planted-kvm-notify", "segment 2/no 25 Reachable 1096", "segments 4"),
+        ("driver", "segments 2", "segments 2"), ("driver-without-begins", "segment 0/no 25 Reachable 1168", "segments 2"))
 TAKEN_BY = {"planted-gather": "unmap_page_range", "planted-reclaim": "try_to_unmap_one", "planted-reclaim-large": "try_to_unmap_one",
             "planted-merge": "ptep_clear_flush", "planted-migrate": "try_to_migrate_one",
             "planted-kvm-notify": "kvm_tdp_mmu_unmap_gfn_range"}
@@ -187,13 +215,23 @@ def check_kept() -> None:
                 check(f"{name}: who took the page away is shown", TAKEN_BY[name] in " ".join(shown), shown)
 
 
+def check_begins() -> None:
+    """A sound kernel's log in which one task flushes for another; and the same without the begins of flushes."""
+    lines = convert.read_lines(f"{KEPT}/driver.log.xz")
+    chain = convert.convert(lines, Options(chain=1000))
+    check("what another task flushed is said", chain.calls().count("\tflushed by another task on processor ") == 15, chain.calls()[:300])
+    without = convert.convert([line for line in lines if not line.startswith("@flushing ")], Options(chain=1000)).spell()
+    check("without the begins it is a no", judged(without) == ("segment 0/no 25 Reachable 1409",) * 2, judged(without))
+
+
 FLUSHES = 6
 
 
 def check_flushes() -> None:
     """Most flushes that are dropped from a sound log are seen where memory is freed."""
     results = slips.draw_flushes(convert.read_lines(f"{KEPT}/given.log.xz"), FLUSHES, 1)
-    check("flushes that are dropped are seen", results["with releases"][slips.NOTHING] < results["without releases"][slips.NOTHING], results)
+    unseen = [results[f"{what} releases"][slips.NOTHING] for what in ("with", "without")]
+    check("flushes that are dropped are seen", unseen[0] < unseen[1], results)
 
 
 # ---- the kernel ----
@@ -214,12 +252,14 @@ def check_functions() -> None:
 def check_flushers() -> None:
     """Of a process the plugin sees the kernel's own flushes, of nested tables those that KVM makes."""
     names = ["pgd_alloc", "__per_cpu_offset", "cpu_tlbstate", "current_task", "flush_tlb_info", "do_syscall_64", "_stext", "_etext",
-             "free_unref_page_list", "svm_load_mmu_pgd", *FLUSHERS, *NESTED_FLUSHERS, "the end"]
+             "free_unref_page_list", "svm_load_mmu_pgd", *FLUSHERS, *BATCH_FLUSHERS, *NESTED_FLUSHERS, "the end"]
     kernel = Kernel("6", "", [], [((1 << 63) + 16 * k, name) for k, name in enumerate(names)], made_types())
     with mock.patch.object(Kernel, "offset", lambda *_: 0), mock.patch.object(Kernel, "check_fixed"):
-        for what, settings, flushers in (("a process", kernel.settings(), FLUSHERS),
-                                         ("nested tables", kernel.nested_settings(), NESTED_FLUSHERS)):
-            found = [each.partition("=")[2].partition("-")[0] for each in settings if each.startswith("flusher=")]
+        for what, settings, kind, flushers in (("a process", kernel.settings(), "flusher", FLUSHERS),
+                                               ("a process, by some processors", kernel.settings(), "batch", BATCH_FLUSHERS),
+                                               ("nested tables", kernel.nested_settings(), "flusher", NESTED_FLUSHERS),
+                                               ("nested tables, by some processors", kernel.nested_settings(), "batch", ())):
+            found = [each.partition("=")[2].partition("-")[0] for each in settings if each.startswith(f"{kind}=")]
             check(f"the flushes of {what}", tuple(kernel.place(int(begin, 16))[0] for begin in found) == flushers, found)
 
 

@@ -14,6 +14,7 @@ sys.dont_write_bytecode = True
 import convert
 import machine
 import many
+import results
 from counting import check
 from kernel_image import Kernel
 from many import Run
@@ -43,10 +44,10 @@ def check_printed() -> None:
             run("ended", [], failure="the guest ended & more"), run("pair", ["segments 1", "segment 0; no 24 Stale 1"])]
     check("which are as expected", [each.is_as_expected() for each in runs] == [True, False, True, False, True])
     check("which were missed and are run again", [each.name for each in runs if each.is_missed()] == ["missed"])
-    lines = [line for line in table.tap(runs) if line[0] != "#"]
+    lines = [line for line in results.tap(table.results_of(runs)) if line[0] != "#"]
     check("lines of the Test Anything Protocol", lines[:2] == ["TAP version 13", "1..5"] and [line.split(" - ")[0] for line in lines[2:]]
           == ["ok 1", "not ok 2", "ok 3", "not ok 4", "ok 5"], lines)
-    suite = xml.etree.ElementTree.fromstring(table.junit(runs).partition("\n")[2])
+    suite = xml.etree.ElementTree.fromstring(results.junit("planted", table.results_of(runs)).partition("\n")[2])
     cases = {case.get("name"): [each.get("message") for each in case] for case in suite}
     check("an XML file as JUnit's", suite.get("tests") == "5" and suite.get("failures") == "2" and cases
           == {"found": [], "missed": ["`segments 3`"], "unseen": [], "ended": ["the guest ended & more"], "pair": []}, cases)

@@ -25,6 +25,7 @@ class Chain:
     audit: subprocess.Popen[bytes]
     calls: TextIO
     kept: BinaryIO | None       # a file that gets all of it
+    log: TextIO | None          # .. and one that gets the log's lines
     segments: collections.deque[bytes] = field(default_factory=lambda: collections.deque(maxlen=KEPT))
     is_read: bool = True        # the auditor reads on: it has found no fault
     verdict: list[str] = field(default_factory=list)
@@ -41,17 +42,20 @@ class Chain:
 
     def take(self, line: str) -> None:
         if self.is_read:
-            for each in log_lines.parse(self.slimmer.of_line(line)):
-                self.converter.put(each)
+            for each in self.slimmer.of_line(line):
+                if self.log:
+                    self.log.write(each)
+                for parsed in log_lines.parse([each]):
+                    self.converter.put(parsed)
 
     def end(self) -> int:
         """The last segment, and the auditor's status."""
         if self.is_read:
             self.converter.finish()
             self.converter.end_segment()
-        self.calls.close()
-        if self.kept:
-            self.kept.close()
+        for file in (self.calls, self.kept, self.log):
+            if file:
+                file.close()
         try:
             self.audit.stdin.close()
         except BrokenPipeError:
@@ -65,13 +69,15 @@ class Chain:
         return list(self.segments)[:at + 1] if 0 <= at < len(self.segments) else []
 
 
-def begin(path: str, place: Callable[[int], tuple[str, int]], tag: str, updates: int, keep: bool, before: Chain | None = None) -> Chain:
-    """A chain of segments of some so many updates. Who made its calls is written to PATH.calls and, to be kept, its bytes to PATH.chain.
-    Of a chain `before` of the same boot it is known where its kernel has the processors' own tables."""
+def begin(path: str, place: Callable[[int], tuple[str, int]], tag: str, updates: int, keep: Iterable[str] = (),
+          before: Chain | None = None) -> Chain:
+    """A chain of segments of some so many updates. Who made its calls is written to PATH.calls, and what is to be kept, `chain` or `log`,
+    to PATH.chain or PATH.log. Of a chain `before` of the same boot it is known where its kernel has the processors' own tables."""
     audit = subprocess.Popen([explain.program(), "audit", "--chain", "--quiet"], stdin=subprocess.PIPE, stdout=subprocess.PIPE)
     converter = convert.Converter(convert.Options(chain=updates))
-    kept = open(f"{path}.chain", "wb") if keep else None
-    chain = Chain(log_lines.Slimmer(place, tag), converter, audit, open(f"{path}.calls", "w"), kept)
+    kept = open(f"{path}.chain", "wb") if "chain" in keep else None
+    log = open(f"{path}.log", "w") if "log" in keep else None
+    chain = Chain(log_lines.Slimmer(place, tag), converter, audit, open(f"{path}.calls", "w"), kept, log)
     if before:
         chain.slimmer.task_states = before.slimmer.task_states
     converter.put_segment, converter.put_calls = chain.put, chain.calls.write

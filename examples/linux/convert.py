@@ -25,20 +25,18 @@ from typing import NamedTuple, TextIO
 
 sys.dont_write_bytecode = True
 import log_lines
-from log_lines import (Access, Born, Dumped, End, Entered, Entry, Fault, Flushed, InUser, Line, Note, Released, Returned, Store, Symbol,
-                       Table, Word)
+from log_lines import (Access, Born, Dumped, End, Entered, Entry, Fault, Flushed, Flushing, InUser, Line, Note, Released, Returned, Store,
+                       Symbol, Table, Word)
 from page_tables import BYTES, Change, Page, PageTables
 from chain_bytes import Segment
 from promises import MUNMAP, PROTECTS, Promises, allowed_by, rounded
 from trace_bytes import ACCESS, ALLOWED, CHANGED, DONE, FAULT, MAP, PROTECT, REMOVED, UNMAP, Frames, Trace
+from windows import EVERYTHING, Update, Windows
 
 PROCESSORS = 8                  # threads 0 to 7 are the processors' accesses, the others updates under way
 MORE = "pages that allow more than a system call said"
 LATER = "pages that were stored later, and allow more than a system call said"
 MOST_STORED = 4096              # pages of a task that isn't seen in user mode: of a thread of the kernel's own, say
-EVERYTHING = (1 << 64) - 1
-
-Window = tuple[int, int]        # a page's size and base: its entry was stored to, and isn't flushed
 
 
 @dataclass(frozen=True)
@@ -65,16 +63,6 @@ class Source(NamedTuple):
 
 
 @dataclass
-class Update:
-    """One that has its place in the log, and no reply yet."""
-    call: int
-    place: int
-    thread: int
-    change: Change
-    source: int             # among the sources
-
-
-@dataclass
 class Converter:
     options: Options
     trace: Trace = field(default_factory=Trace)
@@ -82,8 +70,8 @@ class Converter:
     pages: dict[int, Page] = field(default_factory=dict)                    # after the log as it is
     promised: set[int] = field(default_factory=set)                         # bases where a system call's promise is, not a store
     latest: dict[int, tuple[int, int]] = field(default_factory=dict)        # by base: place and task of the latest update
-    windows: dict[Window, dict[int, list[Update]]] = field(default_factory=dict)    # by task that owes the flush
-    owed: dict[int, set[Window]] = field(default_factory=lambda: collections.defaultdict(set))      # by task
+    windows: Windows = field(default_factory=Windows)
+    flushing: dict[int, int] = field(default_factory=dict)                  # by task: places when its flush by all processors began
     entered: dict[int, int] = field(default_factory=dict)                   # by task: places when its system call began
     promises: Promises = field(default_factory=Promises)
     stored: dict[int, set[int]] = field(default_factory=lambda: collections.defaultdict(set))      # by task: bases, not looked at yet
@@ -120,20 +108,16 @@ class Converter:
         assert page is not None
         size, rights, physical = (after.size, after.rights, after.physical) if after and kind == MAP else (0, 0, 0)
         takes_away = kind == UNMAP or kind == PROTECT and after is not None and change.before.rights & ~after.rights
-        window = (page.size, change.base)
-        waits = (takes_away or window in self.windows) and len(self.free) > 1
+        waits = takes_away and len(self.free) > 1
         thread = self.free.pop() if waits else self.free[-1]
         call = self.trace.call(thread, kind, change.base, size, after.rights if kind == PROTECT else rights, physical)
-        update = Update(call, self.trace.place(call), thread, change, len(self.sources))
+        place = self.trace.place(call)
+        update = Update(call, place, self.placed + place, thread, change, len(self.sources), waits)
         self.sources.append(Source(self.name(call), f"task {task:x}", pcs))
-        self.latest[change.base] = (self.placed + update.place, task)
+        self.latest[change.base] = (update.number, task)
         if takes_away:
-            self.windows.setdefault(window, {}).setdefault(task, [])
-            self.owed[task].add(window)
-        if waits:
-            owner = task if task in self.windows[window] else next(iter(self.windows[window]))
-            self.windows[window][owner].append(update)
-        else:
+            self.windows.add(update, task)
+        if not waits:
             self.reply(update)
         self.apply(change)
         self.counts[("maps", "unmaps", "protects")[kind]] += 1
@@ -154,19 +138,19 @@ class Converter:
         else:
             self.trace.reply(update.call, update.place, CHANGED, 0, before.rights)
 
-    def close(self, task: int, begin: int, end: int, why: str) -> None:
-        """The task's flush of these addresses is over, or something else that ends the time of its updates there."""
-        for window in sorted(self.owed.get(task, ())):
-            size, base = window
-            if base >= end or base + BYTES[size] <= begin:
-                continue
-            self.owed[task].discard(window)
-            for update in self.windows[window].pop(task):
+    def answer(self, over: Iterable[Update], why: str) -> None:
+        """The time of these updates is over."""
+        for update in over:
+            if update.waits:
                 self.reply(update)
                 self.sources[update.source] = self.sources[update.source]._replace(until=why)
                 self.free.append(update.thread)
-            if not self.windows[window]:
-                del self.windows[window]
+
+    def flushed(self, line: Flushed) -> None:
+        """A task has flushed for itself, and, where it is known when it began, by all processors for what was stored before."""
+        self.answer(self.windows.flushed(*line[1:]), f"flushed by its task on processor {line.processor}")
+        over = self.windows.flushed_for_others(*line[1:], self.flushing.pop(line.task, 0))
+        self.answer(over, f"flushed by another task on processor {line.processor}")
 
     # ---- stores ----
 
@@ -201,16 +185,12 @@ class Converter:
 
     # ---- accesses ----
 
-    def is_between(self, address: int) -> bool:
-        """The page's entry was stored to, and isn't flushed yet: the processor may answer by what was or by what is."""
-        return any((size, address & -BYTES[size]) in self.windows for size in range(3))
-
     def access(self, processor: int, is_user: bool, access: int, address: int, answer: Answer, pc: int) -> None:
         if address >> (11 + 9 * self.tables.levels):
             return
         if isinstance(self.trace, Segment):
             call = self.trace.touch(processor % PROCESSORS, address, access, is_user, *answer)
-        elif self.is_between(address) and not self.options.every_access:
+        elif self.windows.is_between(address) and not self.options.every_access:
             self.counts["left out: accesses between a store and its flush"] += 1
             return
         else:
@@ -233,14 +213,8 @@ class Converter:
             call = self.trace.release(line.processor % PROCESSORS, size, physical)
             self.sources.append(Source(self.name(call), f"task {line.task:x}", line.pcs))
             self.counts["releases"] += 1
-        self.end_flushes(line.frame * BYTES[0], (line.frame + line.count) * BYTES[0])
-
-    def end_flushes(self, begin: int, end: int) -> None:
-        """Who has taken pages of this memory away owes no flush of them any more: now it is too late. A thread of the kernel's own, which
-        isn't seen in user mode, owes it until here."""
-        for (_, base), owners in list(self.windows.items()):
-            for task in [each for each, updates in owners.items() if any(has_had(update.change, begin, end) for update in updates)]:
-                self.close(task, base, base + 1, "not flushed when its memory was given away")
+        over = self.windows.given_away(line.frame * BYTES[0], (line.frame + line.count) * BYTES[0])
+        self.answer(over, "not flushed when its memory was given away")
 
     # ---- what system calls promise ----
 
@@ -259,7 +233,7 @@ class Converter:
             after = page._replace(rights=page.rights & allowed) if allowed else None
             self.promised.add(base)
             self.update(Change(base, page, after), task, ())
-            self.close(task, base, base + 1, "promised by the system call's return")
+            self.answer(self.windows.flushed(task, base, base + 1), "promised by the system call's return")
 
     def look_at_stored(self, task: int) -> None:
         """Of what a task has stored no page allows more than was promised before, and wasn't changed by another call since."""
@@ -310,10 +284,13 @@ class Converter:
                 self.access(processor, is_user, access, address, Answer(ALLOWED, physical), pc)
             case Fault():
                 self.fault(line)
-            case Flushed(processor, task, begin, end):
-                self.close(task, begin, end, f"flushed by its task on processor {processor}")
+            case Flushing(_, task, is_of_all):
+                self.flushing[task] = self.placed + len(self.trace.log) if is_of_all else 0
+            case Flushed():
+                self.flushed(line)
             case InUser(processor, task):
-                self.close(task, 0, EVERYTHING, f"not flushed, and its task in user mode on processor {processor}")
+                over = self.windows.flushed(task, 0, EVERYTHING)
+                self.answer(over, f"not flushed, and its task in user mode on processor {processor}")
                 self.in_user(task)
             case Released():
                 self.release(line)
@@ -370,7 +347,7 @@ class Converter:
 
     def is_cut_here(self) -> bool:
         """A segment is long enough, and no update is under way."""
-        return 0 < self.options.chain <= max(len(self.trace.log), len(self.trace.events) // 2) and not self.windows
+        return 0 < self.options.chain <= max(len(self.trace.log), len(self.trace.events) // 2) and not self.windows.open
 
     def put(self, line: Line) -> None:
         """Takes the next line of a log; of one that is too long, the first part of it."""
@@ -384,8 +361,8 @@ class Converter:
 
     def finish(self) -> None:
         """The log is over; where it was cut, or ends in between, the tables as the stores made them are the dump."""
-        for task in list(self.owed):
-            self.close(task, 0, EVERYTHING, "not flushed when the recording ended")
+        for task in list(self.windows.owed):
+            self.answer(self.windows.flushed(task, 0, EVERYTHING), "not flushed when the recording ended")
         if self.is_cut or not self.is_over:
             self.notes.append("the log is cut: the dump is that of the stores")
             self.dump = self.tables.frames()
@@ -409,12 +386,6 @@ class Converter:
         for call, who, pcs, until in self.sources:
             rows.append("\t".join([call, who, until, *(f"{pc:#x} {self.symbols.get(pc, '')}".rstrip() for pc in pcs)]) + "\n")
         return "".join(rows)
-
-
-def has_had(change: Change, begin: int, end: int) -> bool:
-    """Before it, a page led into this memory."""
-    page = change.before
-    return page is not None and page.physical < end and begin < page.physical + BYTES[page.size]
 
 
 def parts_of(frame: int, count: int) -> Iterator[tuple[int, int]]:

@@ -10,7 +10,6 @@ agree. Beside the packages that README.md names, Debian's linux-headers of this 
 import lzma
 import os
 import re
-import shutil
 import subprocess
 import sys
 from collections.abc import Iterable
@@ -23,7 +22,7 @@ import explain
 import from_memory
 import machine
 import mappings
-from debian import Missing, said
+from debian import Missing
 
 NAME = "kernel-half"
 GUEST = machine.Guest("/bin/workload dump 1 5 threads cow kinds", maps=True)
@@ -123,18 +122,6 @@ def shown(dump: str, trace: str) -> list[str]:
     return found
 
 
-def build(kernel: machine.Kernel) -> str:
-    """The module, for this kernel."""
-    headers = f"/lib/modules/{kernel.version}/build"
-    if not os.path.isdir(headers):
-        raise Missing(f"no {headers}: apt-get install --no-install-recommends linux-headers-{kernel.version}")
-    folder = f"{machine.OUT}/module"
-    shutil.rmtree(folder, ignore_errors=True)
-    shutil.copytree(f"{machine.HERE}/module", folder)
-    said("make", "-C", headers, f"M={folder}", "modules")
-    return f"{folder}/page_tables.ko"
-
-
 def spelled(path: str, root: int) -> bytes:
     """The trace of the tables in an image of memory."""
     frames, missing = from_memory.gather(from_memory.Image(path, []), root, 4)
@@ -147,7 +134,7 @@ def record() -> tuple[str, str]:
     """Boots the guest, and leaves its kernel's dump and the trace."""
     kernel = machine.kernel()
     machine.compile_parts()
-    initrd = machine.pack(NAME, GUEST.command, [f"{machine.OUT}/{machine.WORKLOAD}", build(kernel)])
+    initrd = machine.pack(NAME, GUEST.command, [f"{machine.OUT}/{machine.WORKLOAD}", machine.module_file(kernel, "page_tables")])
     paths = {ending: f"{machine.OUT}/{NAME}.{ending}" for ending in ("memory", "serial", "dump", "trace")}
     for path in paths.values():
         machine.remove(path)

@@ -27,7 +27,8 @@ PACKAGES = {"qemu-system-x86_64": "qemu-system-x86", "busybox": "busybox-static"
             "dpkg-deb": "dpkg", "xz": "xz-utils", "lz4": "lz4"}
 CONFIGURED = ("X86_64", "BLK_DEV_INITRD", "BINFMT_ELF", "BINFMT_SCRIPT", "PROC_FS", "SYSFS", "DEVTMPFS", "TMPFS", "SERIAL_8250_CONSOLE")
 BANNER = re.compile(rb"Linux version [0-9][^\n\0]*#[^\n\0]*")
-FLUSHERS = ("flush_tlb_mm_range", "arch_tlbbatch_flush")
+FLUSHERS = ("flush_tlb_mm_range",)
+BATCH_FLUSHERS = ("arch_tlbbatch_flush",)       # by the processors alone on which reclaim found the pages
 NESTED_FLUSHERS = ("kvm_flush_remote_tlbs",)    # KVM's other flushes of nested tables end with a call of it, without Hyper-V
 # Those that free frames: each stores to the flags of the frame's struct page. Which of them there are is the compiler's choice, but for
 # LISTED, which other files call.
@@ -182,7 +183,7 @@ class Kernel:
                     raise Missing(f"struct {structure} of this kernel, {self.version}, has {member} at {self.offset(structure, member)}; "
                                   f"the recorder knows it at {place}")
 
-    def settings(self, flushers: Iterable[str] = FLUSHERS) -> list[str]:
+    def settings(self, flushers: Iterable[str] = FLUSHERS, batches: Iterable[str] = BATCH_FLUSHERS) -> list[str]:
         """What the plugin has to know, as name=value."""
         self.check_fixed()
         mask, kind = self.kind_of_tables()
@@ -192,14 +193,15 @@ class Kernel:
                    "entry_end": self.end("do_syscall_64"), "text": self.address("_stext"), "text_end": self.address("_etext"),
                    "page_bytes": self.types.size("page") or 64, "page_flags": self.offset("page", "flags"),
                    "page_type": self.offset("page", "page_type"), "table_mask": mask, "table_kind": kind}
-        functions = [("flusher", name) for name in flushers] + [("releaser", name) for name in self.releasers()]
+        functions = [("flusher", name) for name in flushers] + [("batch", name) for name in batches]
+        functions += [("releaser", name) for name in self.releasers()]
         ranges = [f"{kind}={self.address(name):#x}-{self.end(name):#x}" for kind, name in functions]
         return [f"{name}={value:#x}" for name, value in numbers.items()] + ranges
 
     def nested_settings(self) -> list[str]:
         """The same where nested tables are watched, which KVM loads and flushes."""
         name = "svm_load_mmu_pgd"
-        return [f"nested={self.address(name):#x}", f"nested_end={self.end(name):#x}", *self.settings(NESTED_FLUSHERS)]
+        return [f"nested={self.address(name):#x}", f"nested_end={self.end(name):#x}", *self.settings(NESTED_FLUSHERS, ())]
 
 
 @dataclass(frozen=True)

@@ -36,6 +36,13 @@ class Fault(NamedTuple):
     address: int
 
 
+class Flushing(NamedTuple):
+    """A flush begins, of this address space or of another one; older logs don't have it."""
+    processor: int
+    task: int
+    is_of_all: bool     # by each processor that has the address space
+
+
 class Flushed(NamedTuple):
     processor: int
     task: int
@@ -108,8 +115,8 @@ class End(NamedTuple):
     why: str
 
 
-Line = (Store | Access | Fault | Flushed | Released | InUser | Entered | Returned | Born | Table | Word | Dumped | Entry | Symbol | Note
-        | End)
+Line = (Store | Access | Fault | Flushing | Flushed | Released | InUser | Entered | Returned | Born | Table | Word | Dumped | Entry | Symbol
+        | Note | End)
 
 
 def number(text: str) -> int:
@@ -141,6 +148,7 @@ PARSERS: dict[str, Callable[[list[str]], Line]] = {
     "@store": store,
     "@access": access,
     "@fault": lambda words: Fault(int(words[1]), number(words[2]), number(words[3])),
+    "@flushing": lambda words: Flushing(int(words[1]), number(words[2]), words[3] == "1"),
     "@flushed": lambda words: Flushed(int(words[1]), *map(number, words[2:5])),
     "@released": released,
     "@user": lambda words: InUser(int(words[1]), number(words[2])),

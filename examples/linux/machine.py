@@ -57,6 +57,8 @@ class Guest:
     nested: bool = False            # KVM is there, and the nested tables of a guest's guest are watched
     monitor: bool = False           # .. and a process too, by a second copy of the plugin
     files: tuple[str, ...] = ()     # more files, for its /bin
+    setup: str = ""                 # lines of init before that, when the kernel's modules are inserted
+    modules: tuple[str, ...] = ()   # of the kernel, to be inserted first: of our own by name (module/), others by file
     options: str = ""               # of the kernel's command line, with one before them
     maps: bool = False              # what its kernel says of a process's mappings comes by a serial line, to NAME.maps
     has_line: bool = False          # there is a line to it, and a debugger's stub, without such code too
@@ -69,6 +71,21 @@ def put(file: str, folder: str) -> None:
             shutil.copyfileobj(packed, plain)
     else:
         shutil.copy(file, folder)
+
+
+def module_file(kernel: Kernel, module: str) -> str:
+    """A module's file; one of our own is built for this kernel."""
+    if module.endswith((".ko", ".ko.xz")):
+        return module
+    headers = f"/lib/modules/{kernel.version}/build"
+    if not os.path.isdir(headers):
+        raise Missing(f"no {headers}: apt-get install --no-install-recommends linux-headers-{kernel.version} make")
+    folder, sources = f"{OUT}/module-{kernel.version}", [f"{HERE}/module/{each}" for each in os.listdir(f"{HERE}/module")]
+    if not is_newer(f"{folder}/{module}.ko", sources):
+        shutil.rmtree(folder, ignore_errors=True)
+        shutil.copytree(f"{HERE}/module", folder)
+        said("make", "-C", headers, f"M={folder}", "modules")
+    return f"{folder}/{module}.ko"
 
 
 def insert(modules: list[str]) -> str:
@@ -263,8 +280,9 @@ def record(name: str, guest: Guest, kernel: Kernel, limit: int, take: Callable[[
     compile_parts()
     if guest.nested and not kernel.modules and "svm_load_mmu_pgd" not in kernel.by_name:
         raise Missing(f"no modules of KVM for {kernel.image}, and none in it: they are looked for where Debian's package has them")
-    files = [f"{OUT}/{WORKLOAD}", f"{HERE}/guest/script.py", *guest.files] + (kernel.modules if guest.nested else [])
-    initrd = pack(name, (insert(kernel.modules) if guest.nested else "") + guest.command, files, guest.package)
+    modules = [*(kernel.modules if guest.nested else []), *(module_file(kernel, each) for each in guest.modules)]
+    files = [f"{OUT}/{WORKLOAD}", f"{HERE}/guest/script.py", *guest.files, *modules]
+    initrd = pack(name, "\n".join([insert(modules) + guest.setup, guest.command]), files, guest.package)
     for ending in ("raw", "serial", "memory", "line", "debug", "maps"):
         remove(f"{OUT}/{name}.{ending}")
     os.mkfifo(f"{OUT}/{name}.raw")

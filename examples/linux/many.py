@@ -180,7 +180,7 @@ class Boot:
         run = list(self.runs.values())[len(self.begun)]
         paths = [f"{machine.OUT}/{self.name}-{run.name}-{number}" for number in range(len(self.tags))]
         earlier = self.chains or [None] * len(self.tags)
-        self.chains = [chains.begin(path, self.kernel.place, tag, UPDATES, False, before)
+        self.chains = [chains.begin(path, self.kernel.place, tag, UPDATES, before=before)
                        for path, tag, before in zip(paths, self.tags, earlier)]
         self.begun.append(run)
 

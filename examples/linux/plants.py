@@ -1,4 +1,5 @@
 """Bugs that are planted in the guest's kernel: calls or functions of its code that are overwritten while it runs."""
+import runpy
 from dataclasses import dataclass
 
 from debian import Missing
@@ -136,3 +137,19 @@ PLANTS = {
                      is_given=True),
     "no-unmap": Plant("munmap leaves the pages mapped", (Replaced("unmap_page_range", RETURN),), "threads", 5),
 }
+
+
+def with_others(path: str) -> dict[str, Plant]:
+    """These, and those of a file of Python that says PLANTS = {NAME: Plant(..), ..} likewise; an empty path names none."""
+    others = {}
+    if path:
+        try:
+            others = runpy.run_path(path).get("PLANTS")
+        except Exception as why:            # whatever the file does
+            raise Missing(f"{path}: {type(why).__name__}: {why}") from None
+    if not isinstance(others, dict) or not all(isinstance(each, Plant) for each in others.values()):
+        raise Missing(f"{path} doesn't say PLANTS = {{NAME: Plant(..), ..}}, as plants.py does")
+    both = sorted(set(others) & set(PLANTS))
+    if both:
+        raise Missing(f"{path} has names that are taken: {', '.join(both)}")
+    return {**PLANTS, **others}

@@ -1,8 +1,11 @@
 """What the guest runs while it is watched."""
+import os
+import shlex
 from collections.abc import Callable
 from dataclasses import dataclass
 
 import large_source
+from debian import Missing
 from machine import HERE, LIMIT, OUT, Guest
 from plants import Plant
 
@@ -29,12 +32,15 @@ class Workload:
     limit: int = LIMIT          # seconds
     options: str = ""
     maps: bool = False          # its pages are compared with what the guest's kernel says of its mappings
+    module: str = ""            # one of ours (module/) for the guest's kernel
+    begin: str = ""             # lines of init before it
 
     def guest(self, seed: int, plant: Plant | None = None) -> Guest:
         command = f"/bin/workload {self.command.replace('SEED', str(seed))}"
         ticking = f"/bin/workload tick {self.tick} &\n" if self.tick else ""
-        return Guest(ticking + command, self.processors, self.levels, self.isolated, self.rest, self.memory, plant.code if plant else (),
-                     self.package, self.nested, self.monitor, (self.file(),) if self.file else (), self.options, self.maps)
+        return Guest(ticking + self.begin + command, self.processors, self.levels, self.isolated, self.rest, self.memory,
+                     plant.code if plant else (), self.package, self.nested, self.monitor, (self.file(),) if self.file else (),
+                     modules=(self.module,) if self.module else (), options=self.options, maps=self.maps)
 
 
 WORKLOADS = {
@@ -82,6 +88,8 @@ WORKLOADS = {
                         "exec /usr/lib/chromium/chromium-headless-shell --no-sandbox --single-process --disable-gpu --dump-dom "
                         "file:///bin/page.html", 2, 50, package="chromium-headless-shell", memory=3072,
                         file=lambda: f"{HERE}/guest/page.html", chain=10000, limit=3600),
+    "driver": Workload("a driver's memory that one thread unmaps while another has the driver take it back, 2 processors",
+                       "live SEED 12 driver", 2, 50, rest=3, chain=1000, module="driver_memory"),
     "race": Workload("rests between stores and their flushes, so that other processors' accesses fall there, 3 processors",
                      "live SEED 12 shootdown", 3, 50, rest=25),
 }
@@ -91,4 +99,18 @@ def planted(plant: Plant) -> Workload:
     """The process that meets a planted bug; it waits for it when it runs already."""
     how, is_pair = plant.nested or "live", plant.nested == "pair"
     return Workload(plant.what, f"{how} SEED {plant.rounds} planted {plant.parts}", plant.processors, plant.tick, nested=bool(plant.nested),
-                    monitor=is_pair, chain=1000 if is_pair or plant.is_given else 0, options=WITHOUT_TICKS[plant.processors] if plant.nested else "")
+                    monitor=is_pair, chain=1000 if is_pair or plant.is_given else 0,
+                    options=WITHOUT_TICKS[plant.processors] if plant.nested else "")
+
+
+def own_program(text: str, is_planted: bool) -> tuple[str, Workload]:
+    """A program of somebody else's with its arguments, from exec to exit, and its name. It begins when a bug is planted, if one is."""
+    file, *arguments = shlex.split(text) or [""]
+    name = os.path.basename(file)
+    if not os.path.isfile(file) or not os.access(file, os.X_OK):
+        raise Missing(f"{file} is no program")
+    if name in ("busybox", "workload", "script.py"):
+        raise Missing(f"the guest has a {name} already")
+    asks = "echo PLANT\nread line </dev/ttyS1\n" if is_planted else ""
+    return name, Workload(f"{file}, 3 processors", shlex.join(["exec", f"/bin/{name}", *arguments]), 3, 50, file=lambda: file, chain=1000,
+                          begin=asks)

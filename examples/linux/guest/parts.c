@@ -1,6 +1,7 @@
 #define _GNU_SOURCE
 #include "parts.h"
 
+#include "driver.h"
 #include "given.h"
 
 #include <errno.h>
@@ -475,7 +476,7 @@ static const struct {
 	{ "threads", threads }, { "crowd", crowd }, { "shootdown", shootdown }, { "copied", copied }, { "cow", cow }, { "huge", huge },
 	{ "moved", moved }, { "files", files }, { "merged", merged }, { "reclaimed", reclaimed }, { "emptied", emptied },
 	{ "kinds", kinds }, { "planted", planted }, { "given", give_pages }, { "lazy", give_lazily }, { "lazy-large", give_large_lazily },
-	{ "equal", give_equal_pages }, { "compacted", give_by_compaction },
+	{ "equal", give_equal_pages }, { "compacted", give_by_compaction }, { "driver", unmap_drivers_pages },
 };
 
 void run_part(const char *name)

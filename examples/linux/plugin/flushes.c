@@ -1,5 +1,11 @@
 #include "flushes.h"
 
+#include "owing.h"
+#include "rests.h"
+#include "say.h"
+
+#include <inttypes.h>
+
 #define TASKS 64
 
 static struct {
@@ -28,7 +34,14 @@ void flushes_stored(unsigned cpu)
 	latest[k].flush = guest_flush(cpu);
 }
 
-struct flush flushes_of_task(unsigned cpu)
+void flushes_begin(unsigned cpu, int is_of_all)
+{
+	say("@flushing %u %" PRIx64 " %d\n", cpu, guest_task(cpu), is_of_all);
+	if (owing_has(guest_task(cpu)))
+		rests_here();
+}
+
+static struct flush of_task(unsigned cpu)
 {
 	static const struct flush all = { .end = NOWHERE };
 	unsigned k = find(guest_task(cpu));
@@ -36,4 +49,14 @@ struct flush flushes_of_task(unsigned cpu)
 	if (guest.nested)
 		return all;
 	return k < TASKS ? latest[k].flush : guest_flush(cpu);
+}
+
+void flushes_end(unsigned cpu, uint64_t space)
+{
+	struct flush flush = of_task(cpu);
+
+	if (flush.space && flush.space != space) /* none: all that the processors have */
+		return;
+	owing_flushed();
+	say("@flushed %u %" PRIx64 " %" PRIx64 " %" PRIx64 "\n", cpu, guest_task(cpu), flush.begin, flush.end);
 }

@@ -7,7 +7,10 @@
 /* A task stored to the words of its processor's flush: what is there is its flush. */
 void flushes_stored(unsigned cpu);
 
-/* The latest flush of the processor's task. That of nested tables is of all that the processors have. */
-struct flush flushes_of_task(unsigned cpu);
+/* The processor's task begins a flush, of some address space: one that each processor makes which has the space, or that some make. */
+void flushes_begin(unsigned cpu, int is_of_all);
+
+/* Its flush is over; if it was one of this address space, a line says so. One of nested tables is of all that the processors have. */
+void flushes_end(unsigned cpu, uint64_t space);
 
 #endif

@@ -56,11 +56,14 @@ void owing_add(uint64_t task, uint64_t word)
 		owing[k].words[owing[k].count++] = word;
 }
 
-void owing_flushed(uint64_t task)
+int owing_has(uint64_t task)
 {
-	unsigned k = find(task);
+	return find(task) < tasks;
+}
 
-	if (k < tasks)
+void owing_flushed(void)
+{
+	for (unsigned k = 0; k < tasks; k++)
 		look_again(k);
 }
 

@@ -10,8 +10,11 @@ void owing_begin(void);
 /* A task changed the word at a physical address; NOWHERE means more than one. */
 void owing_add(uint64_t task, uint64_t word);
 
-/* The task has flushed. What it changed has to be looked at again. */
-void owing_flushed(uint64_t task);
+/* Whether a task is one of them. */
+int owing_has(uint64_t task);
+
+/* One has flushed, for itself or for others too. What they changed has to be looked at again. */
+void owing_flushed(void);
 
 /* The task is in user mode: it owes nothing. Whether it did. */
 int owing_in_user(uint64_t task);

@@ -16,6 +16,7 @@
  *     @callers BACK:CALLED ..                         words of the stack behind a call, with what is called there; before @released and
  *     @store CPU TASK OWN PC FRAME INDEX OLD NEW      a word of a table changed; OWN: by a processor that has the address space loaded
  *     @access CPU TASK MODE ACCESS ADDRESS PHYSICAL PC  an access went through; MODE s or u, ACCESS r, w or x
+ *     @flushing CPU TASK ALL                          a flush begins, maybe of another one; ALL: by each processor that has the space
  *     @flushed CPU TASK BEGIN END                     a flush of BEGIN to END of this address space is over
  *     @released CPU TASK PC FRAME COUNT               the kernel frees so many frames, which the address space had
  *     @user CPU TASK                                  a task that had taken something away is in user mode again
@@ -36,6 +37,7 @@
 #include "processor.h"
 #include "qemu_plugin.h"
 #include "releases.h"
+#include "rests.h"
 #include "say.h"
 #include "seen.h"
 #include "system_calls.h"
@@ -45,7 +47,6 @@
 #include <stdio.h>
 #include <stdlib.h>
 #include <string.h>
-#include <unistd.h>
 
 #define MARKS 0x6e7276730000u /* the page of marks: what the guest stores there is a word to the plugin */
 enum mark { MARK_NEXT = 1, MARK_END = 2, MARK_WHEN_EMPTY = 3, MARK_HERE = 4, MARK_AGAIN = 5 };
@@ -59,7 +60,6 @@ enum later_mark { MARK_LATER = 0x100, MARK_CHOSEN = 0x200 };
 #define WRITABLE 2u
 #define BIRTH_BYTES 512 /* of code behind the call of pgd_alloc: there its result is stored */
 #define STACK_BYTES 16384u
-#define REST 110000 /* microseconds: QEMU goes to the next processor 10 times a second */
 
 EXPORTED int qemu_plugin_version = PLUGIN_VERSION;
 
@@ -69,7 +69,6 @@ static int ends_when_empty;
 static uint64_t earlier; /* so many address spaces are made before the one that is watched, */
 static int is_later;     /* .. which isn't from its birth on, but from a mark on that comes later */
 static uint64_t chosen;  /* that address space, once it is born; 0: there is none */
-static uint64_t losses;
 static uint64_t asking_task; /* by which the address space is made that is watched; 0: by any */
 static uint64_t birth_call;  /* the latest call of pgd_alloc */
 static uint64_t result_slot; /* where on a stack a system call's result goes */
@@ -77,8 +76,8 @@ static uint64_t result_slot; /* where on a stack a system call's result goes */
 static qemu_plugin_id_t plugin;
 static int follows; /* code is followed; else, as until the guest asks for it, it runs as without the plugin: so it boots faster */
 
-/* The functions that end with a flush, and those that free frames. */
-static struct functions flushers, releasers;
+/* The functions that flush an address space, those that flush for some processors alone, and those that free frames. */
+static struct functions flushers, batches, releasers;
 
 static void end(const char *why)
 {
@@ -165,15 +164,6 @@ static void tell_access(unsigned cpu, int is_user, enum access access, uint64_t 
 
 /* ---- stores to page tables ---- */
 
-/* Between such a store and its flush another processor may run. */
-static void let_others_run(const struct change *change)
-{
-	int takes_away = !(change->new & PRESENT) || (change->old & ~change->new & WRITABLE);
-
-	if (guest.rest && takes_away && losses++ % guest.rest == 0)
-		usleep(REST);
-}
-
 static void word_stored(unsigned cpu, uint64_t physical, uint64_t pc)
 {
 	struct change change;
@@ -192,8 +182,8 @@ static void word_stored(unsigned cpu, uint64_t physical, uint64_t pc)
 		change.index, change.old, change.new);
 	if (change.old & PRESENT) { /* what only appears needs no flush */
 		owing_add(task, change.level > 1 ? NOWHERE : physical);
-		if (own)
-			let_others_run(&change);
+		if (own && (!(change.new & PRESENT) || (change.old & ~change.new & WRITABLE)))
+			rests_here();
 	}
 	if (ends_when_empty && change.frame == tables_root() && tables_is_empty())
 		end("empty");
@@ -339,19 +329,17 @@ static void on_user_code(unsigned cpu, void *data)
 		tell_access(cpu, 1, FETCH, code->address, code->physical, code->address);
 }
 
-static void on_flushed(unsigned cpu, void *unused)
+static void on_flushing(unsigned cpu, void *functions)
 {
-	struct flush flush;
+	if (state == WATCHING)
+		flushes_begin(processor_that_runs(cpu), functions == &flushers);
+}
 
-	(void)unused;
-	if (state != WATCHING)
-		return;
-	cpu = processor_that_runs(cpu);
-	flush = flushes_of_task(cpu);
-	if (flush.space && flush.space != space) /* none: all that the processors have */
-		return;
-	owing_flushed(guest_task(cpu));
-	say("@flushed %u %" PRIx64 " %" PRIx64 " %" PRIx64 "\n", cpu, guest_task(cpu), flush.begin, flush.end);
+static void on_flushed(unsigned cpu, void *functions)
+{
+	(void)functions;
+	if (state == WATCHING)
+		flushes_end(processor_that_runs(cpu), space);
 }
 
 /* The registers lie behind the return address of the call of do_syscall_64. */
@@ -373,9 +361,22 @@ static void on_birth(unsigned cpu, void *unused)
 	birth_call = callers_call(processor_that_runs(cpu));
 }
 
-static void ask(struct qemu_plugin_insn *instruction, qemu_plugin_ran *call)
+static void ask(struct qemu_plugin_insn *instruction, qemu_plugin_ran *call, void *data)
 {
-	qemu_plugin_register_vcpu_insn_exec_cb(instruction, call, PROCESSOR_FLAGS, NULL);
+	qemu_plugin_register_vcpu_insn_exec_cb(instruction, call, PROCESSOR_FLAGS, data);
+}
+
+/* Where functions that flush begin and return. */
+static void ask_of_flushes(struct qemu_plugin_insn *instruction, uint64_t pc, struct functions *functions)
+{
+	unsigned k = functions_find(functions, pc);
+
+	if (k == functions->count)
+		return;
+	if (pc == functions->each[k].begin)
+		ask(instruction, on_flushing, functions);
+	if (instructions_is_return(instruction, functions->each[k].begin, functions->each[k].end))
+		ask(instruction, on_flushed, functions);
 }
 
 static qemu_plugin_accessed *accessed_by(struct qemu_plugin_insn *instruction, uint64_t pc)
@@ -388,15 +389,14 @@ static qemu_plugin_accessed *accessed_by(struct qemu_plugin_insn *instruction, u
 static void translate_kernel(struct qemu_plugin_insn *instruction)
 {
 	uint64_t pc = qemu_plugin_insn_vaddr(instruction);
-	unsigned k = functions_find(&flushers, pc);
 
 	qemu_plugin_register_vcpu_mem_cb(instruction, accessed_by(instruction, pc), PROCESSOR_FLAGS, QEMU_PLUGIN_MEM_RW, (void *)pc);
 	if (pc == guest.entry)
-		ask(instruction, on_entry);
+		ask(instruction, on_entry, NULL);
 	if (pc == guest.birth)
-		ask(instruction, on_birth);
-	if (k < flushers.count && instructions_is_return(instruction, flushers.each[k].begin, flushers.each[k].end))
-		ask(instruction, on_flushed);
+		ask(instruction, on_birth, NULL);
+	ask_of_flushes(instruction, pc, &flushers);
+	ask_of_flushes(instruction, pc, &batches);
 }
 
 /* The first instruction of a block in user mode is logged as a fetch. */
@@ -459,7 +459,7 @@ static void on_translate_at_first(qemu_plugin_id_t id, struct qemu_plugin_tb *bl
 	for (size_t k = 0; k < qemu_plugin_tb_n_insns(block); k++) {
 		instruction = qemu_plugin_tb_get_insn(block, k);
 		if (instructions_is_asking(instruction))
-			ask(instruction, on_asked);
+			ask(instruction, on_asked, NULL);
 	}
 }
 
@@ -471,6 +471,8 @@ static int set(const char *name, const char *value)
 		return say_tag(value[0]);
 	if (!strcmp(name, "flusher"))
 		return functions_take(&flushers, value);
+	if (!strcmp(name, "batch"))
+		return functions_take(&batches, value);
 	if (!strcmp(name, "releaser"))
 		return functions_take(&releasers, value);
 	return guest_set(name, value);
