@@ -4,9 +4,10 @@
     guests.py [--seconds N] [--plants NAME,..] [KERNEL..]
 
 KERNEL is one of the names below; all, where none is named. `--plants` are bugs of plants.py (`all`, or none where it is missing), each of
-which is overwritten in the running kernel, met, and taken out again. NRVS is the program nrvs. A line is printed for each run, of a bug
-with the seconds from when it was there to the verdict. The status is 0 where each sound kernel was judged right and each bug wrong. Needs
-qemu-system-x86, busybox-static, cpio, gcc, and 30 to 110 MB a kernel.
+which is overwritten in the running kernel, met, and taken out again. If no access met it, it is planted again, with other seeds, four times
+in all. NRVS is the program nrvs. A line is printed for each kernel and bug, of a bug with the seconds from when it was there to the
+verdict. The status is 0 where each sound kernel was judged right and each bug wrong. Needs qemu-system-x86, busybox-static, cpio, gcc, and
+30 to 110 MB a kernel.
 """
 import argparse
 import glob
@@ -47,6 +48,7 @@ MODULES = ("virtio_ring", "virtio", "virtio_pci_legacy_dev", "virtio_pci_modern_
            "zram")
 BOOT, PATIENCE = 400, 240                   # seconds until it has booted, and in which a run has to end
 SETTLED = 0.5                               # seconds without a byte, after which a chain has come
+TRIES = 4                                   # of a bug that no access meets
 SOUND = "--threads 8"
 PLANTED = "--seconds 60 --events 8192 --threads 4 --changers 1 --pin"     # a run with a bug
 INIT = """#!/bin/busybox sh
@@ -302,26 +304,53 @@ def is_found(verdict: str) -> bool:
     return re.search(r"no \d+ ", verdict) is not None
 
 
+class Boots:
+    """Guests with one kernel: the next one is booted where a bug has broken the last one."""
+
+    def __init__(self, kernel: Kernel, guest: Guest | None) -> None:
+        self.kernel, self.guest = kernel, guest
+
+    def run(self, name: str, seed: int) -> Run:
+        """A run with this bug."""
+        if not self.guest or self.guest.qemu.poll() is not None:
+            self.guest = Guest(self.kernel)
+        words = f"{PLANTED} {user_plants.WORDS.get(name, user_plants.OTHERS)} --seed {seed}"
+        run = self.guest.run(words, PATIENCE, user_plants.PLANTS[name])
+        os.rename(f"{self.guest.path}.kept", f"{self.guest.path}-{name}.chain")
+        if "ENDED" not in run.text() or self.guest.before:
+            self.guest.kill()
+        return run
+
+    def end(self) -> None:
+        if self.guest:
+            self.guest.kill()
+
+
+def tried(boots: Boots, name: str) -> tuple[Run, int]:
+    """Runs with a bug until one is found wrong, some at most; the last one, and how many there were."""
+    tries = 1 if name in user_plants.UNSEEN else TRIES
+    for seed in range(1, tries + 1):
+        run = boots.run(name, seed)
+        if is_found(run.verdict):
+            break
+    return run, seed
+
+
 def judge_plants(kernel: Kernel, guest: Guest | None, names: list[str]) -> bool:
-    """A run for each bug, in one boot where the bugs allow it."""
-    all_found = True
+    """Each bug, in one boot where the bugs allow it."""
+    all_found, boots = True, Boots(kernel, guest)
     for name in names:
         try:
-            guest = guest if guest and guest.qemu.poll() is None else Guest(kernel)
-            run = guest.run(f"{PLANTED} {user_plants.WORDS.get(name, user_plants.OTHERS)}", PATIENCE, user_plants.PLANTS[name])
+            run, tries = tried(boots, name)
         except Missing as why:
             print(f"{kernel.name}\t{name}\tskipped: {why}", flush=True)
-            if guest:
-                guest.kill()
+            boots.end()
             continue
         all_found = all_found and is_found(run.verdict) == (name not in user_plants.UNSEEN)
         own = re.findall(r"^no: .*$|[0-9]+ calls, [0-9]+ touches", run.text(), re.M)
-        print("\t".join([kernel.name, name, run.verdict, f"{run.seconds:.1f} s", *own]), flush=True)
-        os.rename(f"{guest.path}.kept", f"{guest.path}-{name}.chain")
-        if "ENDED" not in run.text() or guest.before:
-            guest.kill()
-    if guest:
-        guest.kill()
+        again = [f"run {tries}"] if tries > 1 else []
+        print("\t".join([kernel.name, name, run.verdict, f"{run.seconds:.1f} s", *again, *own]), flush=True)
+    boots.end()
     return all_found
 
 

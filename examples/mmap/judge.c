@@ -1,10 +1,12 @@
 #define _GNU_SOURCE
 #include "judge.h"
 #include "options.h"
+#include "pace.h"
 #include "record.h"
 
 #include <errno.h>
 #include <fcntl.h>
+#include <poll.h>
 #include <signal.h>
 #include <stdio.h>
 #include <stdlib.h>
@@ -16,14 +18,24 @@
  * The last segments are kept. Each begins with a start, so that the one with the fault is a chain by itself. The auditor judges a segment
  * when it has read all of it; behind that are those in the pipe, and the one that is written.
  */
-enum { MOST_KEPT = 64, PIPE_BYTES = 1 << 18, LONGEST_VERDICT = 4096 };
+enum { MOST_KEPT = 64, PIPE_BYTES = 1 << 18, LONGEST_LINE = 4096, FIRST = 10 };
 
-static struct kept { char *bytes; uint64_t length, segment; } kept[MOST_KEPT];
+static struct kept { char *bytes; uint64_t length, segment, events; } kept[MOST_KEPT]; /* events: up to its end, of the whole chain */
 static unsigned kept_count;
 static uint64_t segments; /* that have begun */
+static uint64_t events;   /* of these */
 static uint64_t written;  /* bytes of the chain */
+static double until;      /* when nothing is waited for any more; 0: never */
 static int to = -1, from = -1;
 static pid_t auditor;
+
+/* What the auditor has said: a line for each segment that it has judged, one with a fault, or one for all of the chain. */
+static struct {
+	char line[LONGEST_LINE];
+	size_t length;
+	uint64_t right, faulty;     /* segments; that with a fault */
+	char verdict[LONGEST_LINE]; /* of the chain, or its fault */
+} said;
 
 /* A path to the program nrvs. */
 static const char *find_program(void)
@@ -73,13 +85,15 @@ _Noreturn static void be_program(const char *program, const char *command, const
 	_exit(2);
 }
 
-void judge_begin(void)
+void judge_begin(uint32_t shortest)
 {
 	int chain[2], verdict[2];
 	const char *program;
 
 	signal(SIGPIPE, SIG_IGN);
-	kept_count = 3 + PIPE_BYTES / (options.events * 12);
+	kept_count = 3 + PIPE_BYTES / (shortest * 12);
+	if (kept_count > MOST_KEPT)
+		kept_count = MOST_KEPT;
 	for (unsigned k = 0; k < kept_count; k++) {
 		kept[k].bytes = malloc(record_most_bytes());
 		if (!kept[k].bytes)
@@ -99,19 +113,89 @@ void judge_begin(void)
 	if (auditor < 0)
 		stop("fork: %s", strerror(errno));
 	if (auditor == 0)
-		be_program(program, "audit", "--quiet", chain[0], verdict[1]);
+		be_program(program, "audit", "--json", chain[0], verdict[1]);
 	close(chain[0]);
 	close(verdict[1]);
 	to = chain[1];
 	from = verdict[0];
+	fcntl(to, F_SETFL, O_NONBLOCK);
+	fcntl(from, F_SETFL, O_NONBLOCK);
 }
 
-void judge_segment(void)
+void judge_until(double time) { until = time; }
+
+void judge_segment(uint32_t count)
 {
 	struct kept *next = &kept[segments % kept_count];
 
+	events += count;
 	next->length = 0;
+	next->events = events;
 	next->segment = segments++;
+}
+
+/* ---- what the auditor says ---- */
+
+/* A line as `audit --json` prints it: of a segment that is right, of one with a fault, or of all. */
+static void take_line(const char *line)
+{
+	const char *segment = strstr(line, "\"segment\":"), *verdict = strstr(line, "\"verdict\":\"");
+
+	if (!verdict)
+		return;
+	verdict += strlen("\"verdict\":\"");
+	if (segment && !strncmp(verdict, "yes\"", 4)) {
+		said.right++;
+		return;
+	}
+	said.faulty = segment ? strtoull(segment + strlen("\"segment\":"), NULL, 10) : UINT64_MAX;
+	snprintf(said.verdict, sizeof(said.verdict), "%.*s", (int)strcspn(verdict, "\""), verdict);
+}
+
+/* What has come since; whether more may come. */
+static int hear(void)
+{
+	ssize_t more;
+	char *end;
+
+	while ((more = read(from, said.line + said.length, sizeof(said.line) - 1 - said.length)) > 0) {
+		said.length += (size_t)more;
+		said.line[said.length] = 0;
+		while ((end = strchr(said.line, '\n'))) {
+			*end++ = 0;
+			take_line(said.line);
+			said.length -= (size_t)(end - said.line);
+			memmove(said.line, end, said.length + 1);
+		}
+	}
+	return more < 0 && (errno == EAGAIN || errno == EINTR);
+}
+
+/* Seconds in which the auditor is still waited for: some more where it has judged nothing yet. */
+static double time_left(void)
+{
+	return until > 0 ? until - pace_now() + (said.right == 0 ? FIRST : 0) : 1;
+}
+
+/* Waits until something can be written there, or the auditor says something; whether there is time. -1 is no file. */
+static int wait_for(int file)
+{
+	struct pollfd files[] = { { .fd = file, .events = POLLOUT }, { .fd = from, .events = POLLIN } };
+	const double left = time_left();
+
+	if (left <= 0)
+		return 0;
+	poll(files, 2, left < 1 ? 1 + (int)(left * 1000) : 1000);
+	return 1;
+}
+
+uint64_t judge_judged(void)
+{
+	if (auditor == 0)
+		return events;
+	while (hear() && until > 0 && said.right < segments && wait_for(-1))
+		;
+	return said.right > 0 ? kept[(said.right - 1) % kept_count].events : 0;
 }
 
 static int write_all(int file, const char *bytes, uint64_t length)
@@ -119,7 +203,7 @@ static int write_all(int file, const char *bytes, uint64_t length)
 	while (length > 0) {
 		const ssize_t done = write(file, bytes, length);
 
-		if (done < 0 && errno == EINTR)
+		if (done < 0 && (errno == EINTR || (errno == EAGAIN && (hear(), 1) && wait_for(file))))
 			continue;
 		if (done <= 0)
 			return 1;
@@ -142,16 +226,19 @@ int judge_take(void *context, const uint8_t *bytes, uint32_t length)
 	return write_all(to, (const char *)bytes, length);
 }
 
-/* What the auditor printed, and its status. */
-static int read_verdict(char *text)
+/* Waits until the auditor has said all, and ends it where the time is over; its status, or -1. */
+static int hear_all(void)
 {
-	size_t length = 0;
-	ssize_t more;
 	int status;
 
-	while ((more = read(from, text + length, LONGEST_VERDICT - 1 - length)) > 0 || (more < 0 && errno == EINTR))
-		length += more > 0 ? (size_t)more : 0;
-	text[length] = 0;
+	while (hear() && wait_for(-1))
+		;
+	if (time_left() <= 0 && waitpid(auditor, &status, WNOHANG) == 0) {
+		kill(auditor, SIGKILL);
+		while (waitpid(auditor, &status, 0) < 0 && errno == EINTR)
+			;
+		return -1;
+	}
 	while (waitpid(auditor, &status, 0) < 0 && errno == EINTR)
 		;
 	if (!WIFEXITED(status))
@@ -184,10 +271,19 @@ static void show_fault(uint64_t segment)
 	close(file);
 }
 
+/* The time is over, and the auditor was still at work: what it has judged counts. */
+static int end_in_between(void)
+{
+	printf("left out: the last %llu of %llu segments, which nrvs had not judged when the time was over\n",
+	       (unsigned long long)(segments - said.right), (unsigned long long)segments);
+	if (said.right == 0)
+		stop("no verdict: nrvs judged no segment in the time");
+	printf("segments %llu\n", (unsigned long long)said.right);
+	return 0;
+}
+
 int judge_end(void)
 {
-	static char text[LONGEST_VERDICT];
-	unsigned long long segment;
 	int status;
 
 	if (auditor == 0) {
@@ -195,9 +291,14 @@ int judge_end(void)
 		return close(to) == 0 ? 0 : 2;
 	}
 	close(to);
-	status = read_verdict(text);
-	fputs(text, stdout);
-	if (status == 1 && sscanf(text, "segment %llu", &segment) == 1)
-		show_fault(segment);
+	status = hear_all();
+	if (status < 0)
+		return end_in_between();
+	if (status == 1 && said.faulty != UINT64_MAX)
+		printf("segment %llu\n", (unsigned long long)said.faulty);
+	if (said.verdict[0])
+		printf("%s\n", said.verdict);
+	if (status == 1 && said.faulty != UINT64_MAX)
+		show_fault(said.faulty);
 	return status;
 }

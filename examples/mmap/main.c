@@ -9,6 +9,7 @@
 #include "operations.h"
 #include "options.h"
 #include "others.h"
+#include "pace.h"
 #include "random.h"
 
 #include <errno.h>
@@ -25,21 +26,13 @@
 #include <time.h>
 #include <unistd.h>
 
-enum { MOST_WORKERS = 64 };
+enum { MOST_WORKERS = 64, SHORT = 4096, SHORTEST = 256 }; /* events of short segments, beside those that may be under way */
 
 static struct worker workers[MOST_WORKERS];
 static pthread_barrier_t gate;      /* of all workers and the main thread: before and after each segment */
 static uint64_t segment;            /* that is recorded */
 static atomic_int is_over;          /* no segment comes any more */
 static volatile sig_atomic_t is_asked_to_end;
-
-static double now(void)
-{
-	struct timespec time;
-
-	clock_gettime(CLOCK_MONOTONIC, &time);
-	return (double)time.tv_sec + (double)time.tv_nsec / 1e9;
-}
 
 static void on_end(int signal_number)
 {
@@ -158,15 +151,17 @@ static void start_workers(pthread_t *threads)
 }
 
 /* Records segments, and writes each while the next one is recorded, until the end or until the auditor takes no more. */
-static void record_segments(double end)
+static void record_segments(void)
 {
+	uint32_t events = 0; /* of the segment that is written */
 	int has_failed = 0;
 
+	record_limit(pace_events(0));
 	for (;;) {
 		pthread_barrier_wait(&gate);
 		/* the workers record this segment, while the one before it is written */
 		if (segment > 0) {
-			judge_segment();
+			judge_segment(events);
 			has_failed = record_write(judge_take, NULL);
 			if (has_failed)
 				record_cut_now();
@@ -174,10 +169,14 @@ static void record_segments(double end)
 		pthread_barrier_wait(&gate);
 		if (has_failed)
 			break;
+		events = record_events();
+		pace_recorded(events);
 		record_switch(window_tables(), window_lend);
 		segment++;
-		if (is_asked_to_end || (options.segments && segment >= options.segments) || (options.seconds > 0 && now() >= end)) {
-			judge_segment();
+		const uint32_t next = pace_events(judge_judged());
+		record_limit(next);
+		if (is_asked_to_end || (options.segments && segment >= options.segments) || next == 0) {
+			judge_segment(events);
 			record_write(judge_take, NULL);
 			break;
 		}
@@ -276,17 +275,19 @@ static void set_end(void)
 static int record_and_judge(void)
 {
 	static pthread_t threads[MOST_WORKERS];
+	const uint32_t reserve = options.threads * (2 * LANES + 16) + others_reserve();
+	const uint32_t least = reserve + SHORT < options.events ? reserve + SHORT : options.events;
 	double begin;
 
 	handle_refusals();
 	frames_begin();
-	judge_begin();
+	judge_begin(least > reserve + SHORTEST ? least - reserve : SHORTEST);
 	operations_begin();
 	window_begin(files.huge >= 0);
 	if (!accesses_begin(WINDOW, WINDOW_END))
 		printf("left out: the trap's error code, which signals don't have here; si_code alone is judged\n");
 	/* one more worker: the child of a fork */
-	record_begin(options.threads + 1, options.events, options.threads * (2 * LANES + 16) + others_reserve());
+	record_begin(options.threads + 1, options.events, reserve);
 	watched_begin();
 	record_start(window_tables(), window_lend);
 	print_system();
@@ -298,11 +299,13 @@ static int record_and_judge(void)
 	if (options.waits)
 		wait_for_a_line();
 	set_end();
-	begin = now();
-	record_segments(begin + options.seconds);
+	begin = pace_now();
+	pace_begin(options.seconds > 0 && !options.write ? begin + options.seconds : 0, least, options.events);
+	judge_until(options.seconds > 0 ? begin + options.seconds + 1 : 0);
+	record_segments();
 	for (unsigned k = 0; k < options.threads; k++)
 		pthread_join(threads[k], NULL);
-	print_counts(now() - begin);
+	print_counts(pace_now() - begin);
 	return judge_end();
 }
 

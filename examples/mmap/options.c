@@ -44,7 +44,7 @@ _Noreturn static void usage(void)
 		"nrvs_mmap [--seconds N] [--threads N] [--seed S]: threads map, unmap, protect and move pages of a window of this process,\n"
 		"and access them. nrvs judges whether each access was answered as the kernel had promised.\n"
 		"\n"
-		"--seconds N     how long it records: 10; 0 is until it is interrupted\n"
+		"--seconds N     how long it takes, and at most a second more: 10; 0 is until it is interrupted\n"
 		"--segments N    it ends after so many segments\n"
 		"--threads N     1 to 64 threads: twice as many as processors, and at least 4\n"
 		"--changers N    so many of them change pages, and the others access them: half\n"

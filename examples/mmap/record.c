@@ -5,7 +5,7 @@
 #include <stddef.h>
 #include <sys/mman.h>
 
-enum { EVENTS = NRVS_MAX_EVENTS, PLACES = NRVS_MAX_PLACES, TABLES = 16 };
+enum { EVENTS = NRVS_MAX_EVENTS, PLACES = NRVS_MAX_PLACES, TABLES = 16, LEAST = 256 };
 
 /* What the two recorders have. */
 struct memory {
@@ -16,10 +16,11 @@ struct memory {
 	atomic_uint current; /* the recorder that records */
 	nrvs_atomic updates; /* places that are given */
 	atomic_int is_cut;
+	atomic_uint most;    /* events, above which no worker begins anything */
 };
 
 static struct memory *memory;
-static uint32_t most; /* events, above which no worker begins anything */
+static uint32_t under_way; /* events that all workers together may have under way */
 
 static nrvs_trace *trace(void) { return &memory->traces[memory->current]; }
 
@@ -34,9 +35,10 @@ void record_begin(unsigned workers, uint32_t events, uint32_t reserve)
 	memory = mmap(NULL, sizeof(*memory), PROT_READ | PROT_WRITE, MAP_SHARED | MAP_ANONYMOUS, -1, 0);
 	if (memory == MAP_FAILED)
 		stop("no memory for the recorders");
-	if (reserve + 256 > events)
-		stop("%u events are too few for so many threads: --events %u", events, reserve + 256);
-	most = events - reserve;
+	under_way = reserve;
+	if (reserve + LEAST > events)
+		stop("%u events are too few for so many threads: --events %u", events, reserve + LEAST);
+	record_limit(events);
 	for (unsigned k = 0; k < 2; k++) {
 		const nrvs_config config = {
 			.levels = 4, .replicas = 1, .threads = (uint16_t)(workers * LANES), .tables = 4096,
@@ -50,7 +52,11 @@ void record_begin(unsigned workers, uint32_t events, uint32_t reserve)
 
 void record_start(uint64_t root, nrvs_lend lend) { must(nrvs_start(trace(), root, lend, NULL), "the start of a chain"); }
 
-int record_has_room(void) { return !memory->is_cut && nrvs_load(&trace()->stamps) < most; }
+void record_limit(uint32_t events) { memory->most = events > under_way + LEAST ? events - under_way : LEAST; }
+
+int record_has_room(void) { return !memory->is_cut && nrvs_load(&trace()->stamps) < memory->most; }
+
+uint32_t record_events(void) { return nrvs_events(trace()); }
 
 void record_cut_now(void)
 {

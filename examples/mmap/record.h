@@ -26,6 +26,9 @@ void record_start(uint64_t root, nrvs_lend lend);
 
 /* Whether this segment has room for a worker's next change or touch; not where it has to end. */
 int record_has_room(void);
+/* The next segment has so many events at most, at least so many that each worker can do something. How many this one has. */
+void record_limit(uint32_t events);
+uint32_t record_events(void);
 /* Each segment ends as soon as it can. May be called by a handler of signals. */
 void record_cut_now(void);
 

@@ -45,14 +45,21 @@ static nrvs_answer apply(nrvs_request request)
 	return page_table_protect(&table, request.address, request.rights);
 }
 
-/*
- * No TLB has a page any more that was there before the update. That is so of a map too: the flush of what was there may still be
- * under way on another thread, and who was answered that the new page is there must not meet the old one.
- */
-static void flush(nrvs_request request)
+/* How many bytes the page has that is there; those of a small one where none is. */
+static uint64_t page_bytes(uint64_t address)
 {
-	const uint64_t bytes = (uint64_t)4096 << (9 * (request.kind == NRVS_KIND_MAP ? request.size : 0));
+	return (uint64_t)4096 << (9 * page_table_resolve(&table, address).size);
+}
 
+/*
+ * No TLB keeps the page any more that was there before the update, at none of its addresses, nor what was there before that page. A map
+ * takes nothing away, so it flushes nothing: the flush of what was there may still be under way on another thread, whose answer says when
+ * that is over.
+ */
+static void flush(nrvs_request request, uint64_t bytes)
+{
+	if (request.kind == NRVS_KIND_MAP)
+		return;
 	for (unsigned k = 0; k < worker_count; k++)
 		tlb_flush(&workers[k].tlb, request.address, bytes);
 }
@@ -64,7 +71,7 @@ static void begin_work(struct worker *worker)
 		sched_yield();
 }
 
-/* Rights were added to a page, and nothing was taken away: a processor that kept the old ones faults once more, and walks again. */
+/* Rights were added to a page, and nothing was taken away: a processor that kept the old ones faults by them, and walks again. */
 static int adds_rights(nrvs_request request, nrvs_answer answer)
 {
 	return request.kind == NRVS_KIND_PROTECT && answer.code == nrvs_changed(0).code && (answer.rights & ~request.rights) == 0;
@@ -87,11 +94,13 @@ static void give_back(nrvs_request request, nrvs_answer answer)
 static void update(struct worker *worker, nrvs_request request)
 {
 	uint32_t call, at;
+	uint64_t bytes;
 	nrvs_answer answer;
 
 	must(nrvs_call(trace, 0, worker->thread, request, &call)); /* trace */
 	begin_work(worker);
 	pthread_mutex_lock(&lock);
+	bytes = page_bytes(request.address);
 	answer = apply(request);
 	if (bug(REPLY_BEFORE_PLACE, 1, 0) || bug(SWAPPED_UPDATES, 1, 0)) {
 		at = updates;
@@ -107,13 +116,13 @@ static void update(struct worker *worker, nrvs_request request)
 	if (bug(LATE_FLUSH, 1, 0)) {
 		must(nrvs_reply(trace, call, at, answer));
 		let_other_in(worker);
-		flush(request);
+		flush(request, bytes);
 		return;
 	}
 	if (bug(FREED_EARLY, 1, 0))
 		give_back(request, answer);
 	if (!settings.is_late || !adds_rights(request, answer))
-		flush(request);
+		flush(request, bytes);
 	if (!bug(REPLY_BEFORE_PLACE, 1, 0))
 		must(nrvs_reply(trace, call, at, answer));         /* trace */
 	if (chosen_bug != FREED_EARLY)
