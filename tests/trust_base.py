@@ -180,12 +180,13 @@ def declared_by(base, found):
         for token in NAME.findall(text):
             for place, name in scope.find(token):
                 crate, is_declared, path = place.partition(".declared.")
-                module, _, item = path.partition(".")
                 if not is_declared:
                     continue
-                file = ROOT / "crates" / crate / "src" / f"{module}.rt"
-                is_constant = item.startswith("TheConstants")
-                (constants if is_constant else types).add((name if is_constant else item.partition(".")[0], file))
+                modules = [*itertools.takewhile(str.islower, path.split("."))]
+                item = path.split(".")[len(modules)]
+                file = ROOT / "crates" / crate / "src" / f"{'/'.join(modules)}.rt"
+                is_constant = item == "TheConstants"
+                (constants if is_constant else types).add((name if is_constant else item, file))
     return types, constants
 
 
