@@ -55,27 +55,28 @@ class Run:
         out.write(trace(self.replicas, self.threads, 4096, self.log, self.events, dumps))
 
 
-def greatest(out):
-    """The greatest trace that there is, 70,647,892 bytes: the most events, places, replicas and frames, and 65,376 pages."""
+def greatest(out, tables=4086):
+    """The greatest trace that there is, 70,647,892 bytes: the most events, places, replicas and frames, and 65,376 pages. Or one with fewer
+    tables of pages, 16 each."""
     run = Run(4, 64)
-    for i in range(4086 * 16):
+    for i in range(tables * 16):
         run.map((i // 16 << 21) + (i % 16 << 12), i << 12)
-    while len(run.log) < 65536:
+    for _ in range(160):
         run.unmap(1 << 46)
     run.write(out)
 
 
-def both_ends(out):
+def both_ends(out, tables=4085):
     """As `greatest`, and each table has entries at both ends, in words 0 and 511, as the root of a kernel's table has: 65,360 pages."""
     run = Run(4, 64)
-    for i in range(4085):
+    for i in range(tables):
         directory, entry_ = divmod(i, 511)
         entry_ += entry_ > 254                      # a directory leads to tables by all its words but the one in the middle
         half, quarter = divmod(directory, 4)
         base = half * 0xFFFFFF8000000000 + ((0, 1, 510, 511)[quarter] << 30) + (entry_ << 21)
         for k in range(16):
             run.map(base + ((k + 496 * (k > 7)) << 12), (i * 16 + k) << 12)
-    while len(run.log) < 65536:
+    for _ in range(176):
         run.unmap(1 << 46)
     run.write(out)
 

@@ -1,5 +1,5 @@
 /* Threads on several nodes that append updates and read, beside a log that each node keeps of what it applied.
- * threads THREADS NODES CALLS [SEED] */
+ * threads THREADS NODES CALLS [READS]: of each four calls, so many read, 1 if none is said */
 #define _POSIX_C_SOURCE 200809L
 #include <nrvs_nodes.h>
 #include <pthread.h>
@@ -29,7 +29,7 @@ static struct nrvs_log_words words;
 static struct nrvs_node_words shared[NRVS_MOST_NODES];
 static struct home homes[NRVS_MOST_NODES];
 static _Atomic uint64_t clock_now;
-static uint64_t threads, nodes, calls, most;
+static uint64_t threads, nodes, calls, reads, most;
 static struct call *made[MOST_THREADS];
 
 static void fail(const char *why)
@@ -109,7 +109,7 @@ static void *work(void *context)
 		struct call *call = &made[thread][i];
 
 		drawn = drawn * 6364136223846793005 + 1442695040888963407;
-		call->reads = (drawn >> 33) % 4 == 0;
+		call->reads = (drawn >> 33) % 4 < reads;
 		call->began = atomic_fetch_add(&clock_now, 1);
 		if (call->reads)
 			read_at(home, call);
@@ -187,6 +187,7 @@ int main(int count, char **args)
 	threads = count > 1 ? strtoull(args[1], NULL, 10) : 4;
 	nodes = count > 2 ? strtoull(args[2], NULL, 10) : 2;
 	calls = count > 3 ? strtoull(args[3], NULL, 10) : 1000;
+	reads = count > 4 ? strtoull(args[4], NULL, 10) : 1;
 	if (threads > MOST_THREADS || nodes > NRVS_MOST_NODES)
 		fail("too many");
 	most = threads * calls * MOST_BATCH;
