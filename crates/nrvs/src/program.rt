@@ -83,29 +83,15 @@ fn try_run<T: FilesByName + Threads + Wait + Sync, R: Read + Drop, W: Sink, E: D
             outcome
         }
         Ok(Command::Run(setup, turns, as_trace)) => {
+            let depth = setup.depth;
             let outcome = run_io(rt, alloc, &mut input, output, setup, turns, as_trace);
-            tell_script(
-                alloc,
-                &outcome,
-                setup.depth,
-                false,
-                &input,
-                &*output,
-                errors,
-            );
+            tell_script(alloc, &outcome, depth, false, &input, &*output, errors);
             outcome
         }
         Ok(Command::RunChain(setup, chain)) => {
+            let depth = setup.depth;
             let outcome = run_chain_io(rt, alloc, &mut input, output, setup, chain);
-            tell_script(
-                alloc,
-                &outcome,
-                setup.depth,
-                false,
-                &input,
-                &*output,
-                errors,
-            );
+            tell_script(alloc, &outcome, depth, false, &input, &*output, errors);
             outcome
         }
         Err(refusal) => {

@@ -1,4 +1,4 @@
-use Rattle.std.proofs.Common.{ℕ, List, Option, ap, subst, Result, Ok, Err}
+use Rattle.std.proofs.Common.{◌≡◌, ◌∙◌, ℕ, List, Option, ap, subst, Result, Ok, Err}
 use Rattle.std.specs.Prelude.{◌≢◌, IfOk, IfErr, MatchResult}
 use Rattle.audit_readers.specs.declared.fault.ProgFault.{ProgFault}
 use Rattle.audit_readers.specs.declared.fault.ProgFault.TheVariants.{CannotWrite}
@@ -34,11 +34,11 @@ returns-in-Ok-Simulate g c =
     let Reported : Option (List ℕ) → Type 0 = λ known.
     Reports (IsSimulation setup as_trace) (IsSimulationFault setup.depth known) known g.W.Write.contents c.args.output.now
     c.simulate_io-outcome.new.writer c.simulate_io-outcome.result in
-    let reported : Reported (g.R.Read.remaining c.new-input.result.reader) = record {
+    let reported : Reported (g.R.Read.remaining c.new-input.result.reader.reader) = record {
       ends = in_either _ _ c.simulate_io-outcome.result c.simulate_io-outcome.ensures.ok c.simulate_io-outcome.ensures.err;
       alone = c.simulate_io-outcome.ensures.alone;
     } in
-    rw c.in-Ok-Simulate.is (rw c.in-Ok-Simulate.field-0-is (subst Reported (ap g.R.Read.remaining c.new-input.ensures.reader) reported))
+    rw c.in-Ok-Simulate.is (rw c.in-Ok-Simulate.field-0-is (subst Reported (ap (λ lines. g.R.Read.remaining lines.reader) c.new-input.ensures.reader ∙ ap g.R.Read.remaining c.new.ensures) reported))
 
 pub returns-in-Ok-RunChain : goal.returns-in-Ok-RunChain
 returns-in-Ok-RunChain g c =
@@ -47,11 +47,11 @@ returns-in-Ok-RunChain g c =
     let old = g.W.Write.contents c.args.output.now in
     let new = g.W.Write.contents c.run_chain_io-outcome.new.writer in
     let result = c.run_chain_io-outcome.result in
-    let known = g.R.Read.remaining c.new-input.result.reader in
+    let known = g.R.Read.remaining c.new-input.result.reader.reader in
     let reported : ReportsBySegments setup chain known old new result = record {
       ends = in_either _ _ result (served_with_left setup chain known _ old new result c.run_chain_io-outcome.ensures.ok)
           c.run_chain_io-outcome.ensures.err;
       first = with_left setup chain known _ old new result c.run_chain_io-outcome.ensures.first;
     } in
     rw c.in-Ok-RunChain.is (rw c.in-Ok-RunChain.field-0-is (subst (λ (known : Option (List ℕ)). ReportsBySegments setup chain known old new result)
-    (ap g.R.Read.remaining c.new-input.ensures.reader) reported))
+    (ap (λ lines. g.R.Read.remaining lines.reader) c.new-input.ensures.reader ∙ ap g.R.Read.remaining c.new.ensures) reported))
