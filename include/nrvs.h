@@ -1,7 +1,8 @@
 /* A page table for x86-64 in the caller's memory: four or five levels, pages of 4 KiB, 2 MiB and 1 GiB.
  *
  * Each call gets a handle and the memory that it works in. It allocates nothing, keeps no pointer, and takes no lock. What it does is
- * proved: its contract is that of the same call of `Space` (crates/nrvs_c/README.md).
+ * proved: its contract is that of the same call of `Space` (crates/nrvs_c/README.md). No contract knows where a field of a struct lies:
+ * that this header and the library agree on that is tested (tests/library).
  *
  * The memory is `words`, which has `frames` frames, and `marks`, which has at least one mark for each frame; further marks stay as they
  * are. Frame number `base + i` is words[i]. If words[0] lies at the physical address `base * 4096`, a processor can walk these frames, from
@@ -36,7 +37,7 @@
  *     first call. If you call from a handler, or preempt a call, save them (FXSAVE; kernel_fpu_begin in Linux);
  *   - the red zone: a call keeps words within 128 bytes below RSP. So interrupts and faults that may come during a call run on a stack of
  *     their own (IST), or are off. -mno-red-zone for the kernel's own code doesn't change that;
- *   - the stack is aligned to 16 at the call, and has 1 KiB left: at most some 520 bytes were used, as measured;
+ *   - the stack is aligned to 16 at the call, and has 1 KiB left: tests/for_kernels adds up the frames of each call;
  *   - interrupts: a call may be interrupted and go on later. But a handler that may interrupt a change of a table makes no call with its
  *     handle;
  *   - flushing: after NRVS_REMOVED and NRVS_CHANGED, do an invlpg of the page on each processor that may have used it, and under each PCID

@@ -40,11 +40,14 @@
  *     make e grow: a call ends if the others stop beginning updates, and nodes that lag take entries. Of the calls that go on one always
  *     gets further (lock-free); but while others append without end, a call may be overtaken again and again. A node that was stopped
  *     blocks nobody until a call needs its room in the ring: until 17 - u entries are in the log that it hasn't taken;
- *   - once every node is done with an entry, that stays so (nrvs_nodes_everywhere). Suppose each node keeps page tables, applies entries by
- *     the plans of nrvs_plan.h, and flushes its processors before it says that it is done. Then each node's tables translate as the address
- *     space does after the entries that it has applied. A processor finds what the space has after that many entries, or one more while a
- *     plan is carried out. Once every node is done with an unmap, no processor finds the page any more, so its frame may be freed;
- *   - if such a run is recorded, calls before the work and replies after it, nrvs_audit.h finds no fault in it.
+ *   - once every node is done with an entry, that stays so (nrvs_nodes_everywhere). Suppose each node keeps page tables in a memory of its
+ *     own, which begin with a root of zeros. It applies each entry by a plan of nrvs_plan.h, changes its tables in no other way, and
+ *     flushes its processors before nrvs_node_applied. Then its tables translate as the address space does after the entries that it has
+ *     applied. A processor finds what the space has after that many entries, or one more while a plan is carried out. Once every node is
+ *     done with an unmap, no processor finds the page any more until a later entry maps it, so its frame may be freed;
+ *   - suppose such a run is recorded, calls before the work and replies after it, and each dump is of tables that translate as their node's
+ *     space. Then nrvs_audit.h finds no fault in it.
+ * No clause knows where a field of a struct lies: that this header and the library agree on that is tested (tests/nodes).
  *
  * What the caller has to keep, which no call can test:
  *   - each operation is carried out as asked, atomically, and in one order with all others (sequentially consistent). nrvs_node_told gets
