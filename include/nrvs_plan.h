@@ -34,10 +34,10 @@
  *     again for a kernel, without them.
  *
  * What you get: the answer of one sequential address space. A processor that walks at any moment finds the old translation or the new one.
- * No flag that a processor sets is lost, and the named flush is sufficient. For processors of another root, which leads to some of these
- * tables, that is promised of one plan with a flush of its own, and not of ranges. The same README has each promise with its clauses, in
- * "What a plan promises" and "What a range promises". Names in brackets here are clauses. No clause knows where a field of a struct lies:
- * that this header and the library agree on that is tested (tests/plans).
+ * No flag that a processor sets is lost, and the named flush is sufficient. If another root leads to some of these tables, its processors
+ * find the same on three conditions, for one plan with a flush of its own, but not for ranges. The same README has each promise with its
+ * clauses, in "What a plan promises" and "What a range promises". Names in brackets here are clauses. No clause knows where a field of a
+ * struct lies: that this header and the library agree on that is tested (tests/plans).
  */
 #ifndef NRVS_PLAN_H
 #define NRVS_PLAN_H
