@@ -28,7 +28,8 @@ use Rattle.nr_chain.specs.Headline.{release_behind}
 use Rattle.nr_audit.proofs.ReleasesBehind.{found_in_time}
 use Rattle.nr_chain.proofs.Touched.{in_time_as, in_time_back, right_front}
 use Rattle.chain_cuts.specs.Cut.{MayCome}
-use Rattle.chain_cuts.proofs.TouchesApart.{behind, many_events, same_touch}
+use Rattle.nr_joined.proofs.Lengths.{many_events}
+use Rattle.chain_cuts.proofs.TouchesApart.{behind, same_touch}
 
 -- ---- what is given away, and how it is answered
 

@@ -1,13 +1,13 @@
 -- A run that is cut in two has right touches just where the two have, and the same moments show them.
-use Rattle.std.proofs.Common.{◌≡◌, ℕ, ◌+◌, ◌<◌, ◌≤◌, ◌⊎◌, inl, inr, length, map, Option, Some, None, option_map, refl, ap, sym, ◌∙◌, subst, arith}
-use Rattle.std.proofs.lemmas.List.{length-append, length-map}
+use Rattle.std.proofs.Common.{◌≡◌, ℕ, ◌+◌, ◌<◌, ◌≤◌, ◌⊎◌, inl, inr, length, Option, Some, None, option_map, refl, ap, sym, ◌∙◌, subst, arith}
 use Rattle.vs_types.specs.Space.{Space}
 use Rattle.nr_trace.specs.Recording.{Recording}
 use Rattle.nr_trace.specs.Calls.{touch_of, Response, reply_of}
 use Rattle.nr_trace.specs.Laws.{HasCleanLog}
 use Rattle.nr_trace.specs.Orders.{space_from}
 use Rattle.nr_trace.proofs.LawsOfCalls.{reply_behind_call, reply_below}
-use Rattle.nr_joined.specs.Joined.{calls_behind, event_behind, joined_traces}
+use Rattle.nr_joined.proofs.Lengths.{many_events, many_places}
+use Rattle.nr_joined.specs.Joined.{joined_traces}
 use Rattle.nr_joined.specs.Run.{Run, run_with, IsOrderly}
 use Rattle.nr_joined.proofs.Associated.{joined_associate}
 use Rattle.nr_joined.proofs.Lists.{split_at}
@@ -122,16 +122,6 @@ module _ (first second : Recording) (clean : HasCleanLog first) where
   of_both touch (inr (mine, of_second, same)) = subst (HasTouch whole) same (has_rest mine of_second)
 
 -- ---- behind a run
-
-pub many_events : (first second : Recording) → length (joined_traces first second).events ≡ length first.events + length second.events
-many_events first second =
-    length-append first.events (map (event_behind (length first.events) (length first.log)) second.events)
-    ∙ ap (λ (n : ℕ). length first.events + n) (length-map second.events (event_behind (length first.events) (length first.log)))
-
-pub many_places : (first second : Recording) → length (joined_traces first second).log ≡ length first.log + length second.log
-many_places first second =
-    length-append first.log (calls_behind (length first.events) second.log)
-    ∙ ap (λ (n : ℕ). length first.log + n) (length-map second.log (λ (call : ℕ). length first.events + call))
 
 abbrev pub behind : Recording → Touch → Touch
 behind trace touch = touch_behind (length trace.events) (length trace.log) touch

@@ -1,7 +1,7 @@
 -- Parts of the bytes of a chain, one behind the other.
-use Rattle.std.proofs.Common.{◌≡◌, ◌⊎◌, inl, inr, ℕ, ◌+◌, List, [], ◌∷◌, ◌++◌, length, map, Option, Some, None, option_map, refl, sym, ap, subst, ◌∙◌, arith}
+use Rattle.std.proofs.Common.{◌≡◌, ◌⊎◌, inl, inr, ℕ, ◌+◌, List, [], ◌∷◌, ◌++◌, length, Option, Some, None, option_map, refl, sym, ap, subst, ◌∙◌, arith}
 use Rattle.std.specs.Prelude.{IfSome}
-use Rattle.std.proofs.lemmas.List.{append_assoc, length-append, length-map}
+use Rattle.std.proofs.lemmas.List.{append_assoc}
 use Rattle.std.proofs.lemmas.Option.{same_Some}
 use Rattle.vs_types.specs.Config.{Layout}
 use Rattle.vs_types.specs.Space.{Space}
@@ -10,8 +10,9 @@ use Rattle.vs_types.specs.declared.page.Page.{Page}
 use Rattle.nr_trace.specs.Recording.{Recording}
 use Rattle.nr_trace.specs.Orders.{space_from}
 use Rattle.nr_trace.specs.Laws.{IsFaultlessFrom}
-use Rattle.nr_joined.specs.Joined.{calls_behind, event_behind, joined_traces}
+use Rattle.nr_joined.specs.Joined.{joined_traces}
 use Rattle.nr_joined.specs.Run.{Run, end_of, IsOrderly}
+use Rattle.nr_joined.proofs.Lengths.{many_events, many_places}
 use Rattle.nr_joined.proofs.Associated.{joined_associate}
 use Rattle.nr_joined.proofs.Orderly.{clean_is_orderly, orderly_both, space_of_both}
 use Rattle.nr_touch.specs.Releases.{IsReachable, IsWrongRelease}
@@ -91,16 +92,6 @@ module _ (end : Run) (orderly : IsOrderly end.trace) (run : Run) (own : IsOrderl
       space_of_both end.start end.trace run.trace same_layout orderly
       ∙ ap (λ (s : Space). space_from s run.trace run.trace.log) (sym leads)
 
-  many_events : length (joined_traces end.trace run.trace).events ≡ length end.trace.events + length run.trace.events
-  many_events =
-      length-append end.trace.events (map (event_behind (length end.trace.events) (length end.trace.log)) run.trace.events)
-      ∙ ap (λ (n : ℕ). length end.trace.events + n) (length-map run.trace.events (event_behind (length end.trace.events) (length end.trace.log)))
-
-  many_places : length (joined_traces end.trace run.trace).log ≡ length end.trace.log + length run.trace.log
-  many_places =
-      length-append end.trace.log (calls_behind (length end.trace.events) run.trace.log)
-      ∙ ap (λ (n : ℕ). length end.trace.log + n) (length-map run.trace.log (λ (call : ℕ). length end.trace.events + call))
-
   abbrev behind_end : Touch → Touch
   behind_end touch = touch_behind (length end.trace.events) (length end.trace.log) touch
 
@@ -113,9 +104,9 @@ module _ (end : Run) (orderly : IsOrderly end.trace) (run : Run) (own : IsOrderl
   same_touch : (touch : Touch) → behind_end (behind_run touch) ≡ behind_both touch
   same_touch touch =
       let number : (k : ℕ) → length end.trace.events + (length run.trace.events + k) ≡ length (joined_traces end.trace run.trace).events + k =
-      λ k. omega (arith, many_events) in
+      λ k. omega (arith, many_events end.trace run.trace) in
       let places : length end.trace.log + (length run.trace.log + touch.known) ≡ length (joined_traces end.trace run.trace).log + touch.known =
-      omega (arith, many_places) in
+      omega (arith, many_places end.trace run.trace) in
       λ i. record touch { made = number touch.made i; answered = number touch.answered i; known = places i }
 
   -- a touch of a segment that is right behind the one is right behind both; and one that is answered in time behind both is so behind the

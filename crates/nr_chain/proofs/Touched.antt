@@ -1,5 +1,5 @@
 -- A touch of the first of two runs is right in both just where it is right in the first.
-use Rattle.std.proofs.Common.{◌≡◌, ℕ, ◌+◌, ◌-◌, ◌<◌, ◌≤◌, ◌⊎◌, inl, inr, length, min, Option}
+use Rattle.std.proofs.Common.{◌≡◌, ℕ, ◌+◌, ◌-◌, ◌<◌, ◌≤◌, inl, inr, length, min, Option}
 use Rattle.std.proofs.Common.{ap, sym, ◌∙◌, subst, arith}
 use Rattle.std.proofs.Math.Nat.{min-eq_right}
 use Rattle.std.proofs.lemmas.Bool.{cases_lt}
@@ -17,18 +17,9 @@ use Rattle.nr_joined.proofs.Places.{placed_in, placed_left, placed_right}
 use Rattle.nr_touch.specs.Touches.{page_after, ChangesLook, IsAllowedPrefix, IsAnsweredAt, IsAnsweredBefore, IsAnsweredInTime, IsLagging, IsMadeAfter}
 use Rattle.nr_touch.specs.Touches.{Ends, EndsLook, IsRightTouch}
 use Rattle.nr_touch.specs.declared.touches.touch.Touch.{Touch}
-use Rattle.nr_touch.proofs.cuts.Behind.{changes_front, changes_to_front, front, look_front, next_change, to_front, whole_log, EndsBelow, Foresees}
-
--- where no place between two numbers of entries changes it, an address looks the same after them
-same_between : (start : Space) (trace : Recording) (address n m : ℕ) → n ≤ m
-    → ((place : ℕ) → n ≤ place → place < m → ChangesLook start trace address place → ⊥)
-    → page_after start trace address n ≡ page_after start trace address m
-same_between start trace address n m le none =
-    let end : n + (m - n) ≡ m = omega (arith, le) in
-    elim (next_change start trace address n (m - n)) [
-      | inl (place, low, high, changes, same) ↦ absurd (none place low (omega (arith, high, end)) changes)
-      | inr same ↦ same ∙ ap (page_after start trace address) end
-    ]
+use Rattle.nr_joined.proofs.Lengths.{many_places}
+use Rattle.nr_touch.proofs.NextChanges.{same_within}
+use Rattle.nr_touch.proofs.cuts.Behind.{changes_front, front, look_front, EndsBelow, Foresees}
 
 -- another touch of the same events that is answered so
 pub in_time_as : (start : Space) (trace : Recording) (touch : Touch) (made answered known : ℕ) → touch.made ≡ made → touch.answered ≡ answered
@@ -56,7 +47,7 @@ module _ (start : Space) (first second : Recording) (same_layout : second.layout
   look n le = look_front start first second same_layout orderly touch.address n le
 
   more_places : long ≤ length whole.log
-  more_places = let all = whole_log start first second same_layout orderly in omega (arith, all)
+  more_places = let all = many_places first second in omega (arith, all)
 
   -- ---- what ends before the touch, and what it foresees, in both
 
@@ -64,7 +55,7 @@ module _ (start : Space) (first second : Recording) (same_layout : second.layout
       → EndsBelow start whole touch.address page touch.made n
   below_first page n made below place ends (call, placed, (reply, before, answers)) = elim (placed_in first second place call placed) [
     | inl here ↦ below place
-        (front start first second same_layout orderly (Ends page) touch.address place (slice_get_within first.log place call here) ends)
+        ((front start first second same_layout orderly (Ends page) touch.address place (slice_get_within first.log place call here)).0 ends)
         (call, here, (reply, before, answers_left first second reply call (omega (arith, before, made)) answers))
     | inr (k, e, mine, mine_is, same) ↦ absurd (
         let it = answered_right first second reply mine orderly.earlier (subst (λ (c : ℕ). Answers whole reply c) same answers) in
@@ -74,19 +65,19 @@ module _ (start : Space) (first second : Recording) (same_layout : second.layout
 
   first_below : (page : Option Page) (n : ℕ) → EndsBelow start whole touch.address page touch.made n → EndsBelow start first touch.address page touch.made n
   first_below page n below place ends (call, placed, (reply, before, answers)) = below place
-      (to_front start first second same_layout orderly (Ends page) touch.address place (slice_get_within first.log place call placed) ends)
+      ((front start first second same_layout orderly (Ends page) touch.address place (slice_get_within first.log place call placed)).1 ends)
       (call, placed_left first second place call placed, (reply, before, answers_to_left first second reply call answers))
 
   foresees_front : (n : ℕ) → n ≤ long → Foresees start first touch.address touch.answered n → Foresees start whole touch.address touch.answered n
   foresees_front n l none place changes (call, placed, late) = elim (placed_in first second place call placed) [
     | inl here ↦ none place
-        (changes_front start first second same_layout orderly touch.address place (slice_get_within first.log place call here) changes) (call, here, late)
+        ((changes_front start first second same_layout orderly touch.address place (slice_get_within first.log place call here)).0 changes) (call, here, late)
     | inr (k, e, mine, mine_is, same) ↦ omega (arith, l, e)
   ]
 
   front_foresees : (n : ℕ) → Foresees start whole touch.address touch.answered n → Foresees start first touch.address touch.answered n
   front_foresees n none place changes (call, placed, late) = none place
-      (changes_to_front start first second same_layout orderly touch.address place (slice_get_within first.log place call placed) changes)
+      ((changes_front start first second same_layout orderly touch.address place (slice_get_within first.log place call placed)).1 changes)
       (call, placed_left first second place call placed, late)
 
   -- ---- a right touch of the first run is right in both
@@ -121,7 +112,7 @@ module _ (start : Space) (first second : Recording) (same_layout : second.layout
   unchanged : (n : ℕ) → touch.answered < length first.events → n ≤ length whole.log → Foresees start whole touch.address touch.answered n
       → (place : ℕ) → long ≤ place → place < n → ChangesLook start whole touch.address place → ⊥
   unchanged n answered_within within not_foreseen place low high changes =
-      let all = whole_log start first second same_layout orderly in
+      let all = many_places first second in
       let k = place - length first.log in
       let at : place ≡ length first.log + k = omega (arith, low) in
       let (call, is) = item_of second.log k (omega (arith, all, within, high, at)) in
@@ -138,7 +129,7 @@ module _ (start : Space) (first second : Recording) (same_layout : second.layout
       → page_after start whole touch.address n ≡ page_after start first touch.address (min long n)
   look_back n answered_within within not_foreseen = elim (cases_lt long n) [
     | inl past ↦
-        sym (same_between start whole touch.address long n (omega (arith, past))
+        sym (same_within start whole touch.address long n (omega (arith, past))
         (λ place low high. unchanged n answered_within within not_foreseen place low high))
         ∙ look long (omega arith) ∙ ap (page_after start first touch.address) (end_of_past n past)
     | inr low ↦ look n low ∙ ap (page_after start first touch.address) (sym (min-eq_right low))

@@ -16,11 +16,10 @@ use Rattle.nr_trace.specs.Laws.{HasCleanLog}
 use Rattle.nr_trace.proofs.LawsOfCalls.{answers_from, reply_that_answers}
 use Rattle.nr_touch.specs.Touches.{IsAnsweredBefore, IsMadeAfter}
 use Rattle.nr_touch.specs.declared.touches.touch.Touch.{Touch}
-use Rattle.nr_touch.specs.inside.Changes.{AreReplies}
-use Rattle.nr_touch.proofs.Replayed.{replied}
+use Rattle.nr_touch.specs.Replies.{AreReplies}
 use Rattle.nr_audit.specs.Touches.{HasTouch}
 use Rattle.nr_audit.proofs.TouchLists.{touch_answers}
-use Rattle.nr_explain.specs.Facts.{IsCallOf, IsFirstReplyTo, IsReplyOf, asked_address, response}
+use Rattle.nr_explain.specs.Facts.{IsCallOf, IsReplyOf, asked_address, response}
 use Rattle.nr_explain.specs.declared.trace.evidence.RecordedCall.{RecordedCall}
 use Rattle.nr_explain.specs.declared.trace.evidence.RecordedReply.{RecordedReply}
 
@@ -33,11 +32,11 @@ answers_of segment call reply is names = answers_from segment reply.event call (
 
 -- a call that is answered before an event, by the first replies to calls
 pub answered_so : (segment : Recording) (replies : List ℕ) (place call event : ℕ) → slice_get segment.log place ≡ Some call
-    → AreReplies segment replies (length segment.events) → call < length replies → event < 2 ^ 32
+    → AreReplies segment replies → call < length replies → event < 2 ^ 32
     → (get_or replies call 0 < event) ↔ IsAnsweredBefore segment place event
 answered_so segment replies place call event is are within fits = (there_so, back) where
   told : (get_or replies call 0 < event) ↔ ((reply : ℕ) × (reply < event) × Answers segment reply call)
-  told = replied segment replies call are within event fits
+  told = are.first call event within fits
 
   there_so : get_or replies call 0 < event → IsAnsweredBefore segment place event
   there_so low = (call, is, told.0 low)

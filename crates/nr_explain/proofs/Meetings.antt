@@ -1,42 +1,27 @@
 -- The calls that overlap another one.
-use Rattle.std.proofs.Common.{◌≡◌, ◌↔◌, ℕ, ◌+◌, ◌-◌, ◌<◌, ◌≤◌, ◌^◌, ◌⊎◌, inl, inr, ◌&&◌, ◌||◌, not, Bool, true, false, cond, List, length}
+use Rattle.std.proofs.Common.{◌≡◌, ◌↔◌, ℕ, ◌+◌, ◌-◌, ◌<◌, ◌≤◌, ◌^◌, ◌⊎◌, inl, inr, ◌&&◌, ◌||◌, Bool, true, false, cond, List, length}
 use Rattle.std.proofs.Common.{get_or, Option, Some, None, IsTrue, refl, sym, ap, subst, ◌∙◌, arith}
-use Rattle.std.specs.Prelude.{IsSomeAnd, count_by, max, nat_lt}
+use Rattle.std.specs.Prelude.{IsSomeAnd, count_by, max}
 use Rattle.std.specs.List.{list_any}
-use Rattle.std.proofs.lemmas.Bool.{and_from, and_parts, both_ways, cases_lt, false_from_ne_true, lt-ltb, ltb-true, not-true, not_from_false}
+use Rattle.std.proofs.lemmas.Bool.Decides.{Decides-and, Decides-ltb}
+use Rattle.std.proofs.lemmas.Bool.{and_from, and_parts, cases_lt, false_from_ne_true}
 use Rattle.std.proofs.lemmas.Bool.{or_cases, or_left, or_right}
 use Rattle.nr_trace.specs.Recording.{Recording}
 use Rattle.nr_trace.specs.Orders.{below}
 use Rattle.nr_touch.specs.Beside.{is_over}
-use Rattle.nr_touch.specs.inside.Changes.{AreReplies}
-use Rattle.nr_touch.proofs.Overs.{any_below, below_any, count_more, count_same, one_test, over_is}
+use Rattle.nr_touch.specs.Replies.{AreReplies}
+use Rattle.nr_touch.proofs.Overs.{any_below, count_more, count_same, not_below, one_test, over_is}
 use Rattle.nr_explain.specs.Meetings.{is_asked, is_open_at, meets, overlaps}
 use Rattle.nr_explain.specs.inside.Meetings.{Asks, HasMet, IsCountedTo, IsReachOf}
 use Rattle.nr_explain.specs.declared.trace.meetings.Latest.{Latest}
 
 -- ---- calls that are open
 
-module _ (trace : Recording) (replies : List ℕ) (are : AreReplies trace replies (length trace.events)) where
+module _ (trace : Recording) (replies : List ℕ) (are : AreReplies trace replies) where
   open_is : (first second : ℕ) → first < length replies → second < 2 ^ 32
       → (is_open_at trace first second ≡ true) ↔ ((first < second) × (second ≤ get_or replies first 0))
-  open_is first second within fits = (there, back) where
-    over : (is_over trace first second ≡ true) ↔ (get_or replies first 0 < second)
-    over = over_is trace replies are first second within fits
-
-    there : is_open_at trace first second ≡ true → (first < second) × (second ≤ get_or replies first 0)
-    there t =
-        let parts = and_parts (nat_lt first second) (not (is_over trace first second)) t in (
-          ltb-true first second parts.0,
-          (elim (cases_lt (get_or replies first 0) second) [
-            | inl less ↦ absurd (both_ways (is_over trace first second) (not-true (is_over trace first second) parts.1) (over.1 less))
-            | inr more ↦ more
-          ]),
-        )
-
-    back : (first < second) × (second ≤ get_or replies first 0) → is_open_at trace first second ≡ true
-    back (less, more) =
-        and_from (nat_lt first second) (not (is_over trace first second)) (lt-ltb first second less)
-        (not_from_false (is_over trace first second) (false_from_ne_true (is_over trace first second) (λ t. let low = over.0 t in omega arith)))
+  open_is first second within fits =
+      Decides-and _ _ (Decides-ltb first second) (not_below (get_or replies first 0) second _ (over_is trace replies are first second within fits))
 
   module _ (few : length trace.events < 2 ^ 32) where
     fits : (n : ℕ) → n < length trace.events → (n < length replies) × (n < 2 ^ 32)
@@ -56,7 +41,7 @@ module _ (trace : Recording) (replies : List ℕ) (are : AreReplies trace replie
     meets_so call within t =
         let parts = and_parts (is_asked trace call) (is_over trace call (length trace.events) && any call) t in
         let (over, some) = and_parts (is_over trace call (length trace.events)) (any call) parts.1 in
-        let (other, low, with_it) = any_below (overlaps trace call) (length trace.events) some in
+        let (other, low, with_it) = (any_below (overlaps trace call) (length trace.events)).0 some in
         let (asks, either) = and_parts (is_asked trace other) (is_open_at trace call other || is_open_at trace other call) with_it in (
           (over_is trace replies are call (length trace.events) (fits call within).0 few).0 over,
           (elim (or_cases (is_open_at trace call other) (is_open_at trace other call) either) [
@@ -71,15 +56,13 @@ module _ (trace : Recording) (replies : List ℕ) (are : AreReplies trace replie
         (and_from (is_over trace call (length trace.events)) (any call)
         ((over_is trace replies are call (length trace.events) (fits call within).0 few).1 over) (elim either [
           | inl met ↦ (let (other, less, asks, more) = met in
-              below_any (overlaps trace call) (length trace.events) other (omega arith)
-              (and_from (is_asked trace other) _ asks
-              (or_right (is_open_at trace call other) (is_open_at trace other call)
-              ((open_is other call (fits other (omega arith)).0 (fits call within).1).1 (less, more)))))
+              let meets_it = and_from (is_asked trace other) _ asks (or_right (is_open_at trace call other) (is_open_at trace other call)
+              ((open_is other call (fits other (omega arith)).0 (fits call within).1).1 (less, more))) in
+              (any_below (overlaps trace call) (length trace.events)).1 (other, omega arith, meets_it))
           | inr later ↦ (let (other, less, low, asks, more) = later in
-              below_any (overlaps trace call) (length trace.events) other low
-              (and_from (is_asked trace other) _ asks
-              (or_left (is_open_at trace call other) (is_open_at trace other call)
-              ((open_is call other (fits call within).0 (fits other low).1).1 (less, more)))))
+              let meets_it = and_from (is_asked trace other) _ asks (or_left (is_open_at trace call other) (is_open_at trace other call)
+              ((open_is call other (fits call within).0 (fits other low).1).1 (less, more))) in
+              (any_below (overlaps trace call) (length trace.events)).1 (other, low, meets_it))
         ]))
 
     -- a number that asks nothing doesn't meet another call

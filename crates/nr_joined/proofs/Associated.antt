@@ -1,11 +1,12 @@
 -- Three recordings, one after the other, are one however they are taken together.
 use Rattle.std.proofs.Common.{◌≡◌, ℕ, ◌+◌, List, [], ◌∷◌, ◌++◌, length, map, refl, ap, ap₂, sym, ◌∙◌, append_assoc, arith}
-use Rattle.std.proofs.lemmas.List.{length-append, length-map, map-append}
+use Rattle.std.proofs.lemmas.List.{map-append}
 use Rattle.vs_walk.specs.Dump.{Image}
 use Rattle.nr_trace.specs.Recording.{Recording}
 use Rattle.nr_trace.specs.declared.event.Event.{Event}
 use Rattle.nr_trace.specs.declared.event.Event.TheVariants.{Reply}
 use Rattle.nr_joined.specs.Joined.{calls_behind, dump_behind, event_behind, joined_traces}
+use Rattle.nr_joined.proofs.Lengths.{many_events, many_places}
 
 calls_twice : (m n : ℕ) (calls : List ℕ) → calls_behind (m + n) calls ≡ calls_behind m (calls_behind n calls)
 calls_twice m n [] = refl
@@ -29,19 +30,9 @@ dumps_twice p q (dump ∷ dumps) =
     (dumps_twice p q dumps)
 
 module _ (first second third : Recording) where
-  many_events : length (joined_traces first second).events ≡ length first.events + length second.events
-  many_events =
-      length-append first.events (map (event_behind (length first.events) (length first.log)) second.events)
-      ∙ ap (λ (n : ℕ). length first.events + n) (length-map second.events (event_behind (length first.events) (length first.log)))
-
-  many_places : length (joined_traces first second).log ≡ length first.log + length second.log
-  many_places =
-      length-append first.log (calls_behind (length first.events) second.log)
-      ∙ ap (λ (n : ℕ). length first.log + n) (length-map second.log (λ (call : ℕ). length first.events + call))
-
   same_log : (joined_traces (joined_traces first second) third).log ≡ (joined_traces first (joined_traces second third)).log
   same_log =
-      ap (λ (n : ℕ). (first.log ++ calls_behind (length first.events) second.log) ++ calls_behind n third.log) many_events
+      ap (λ (n : ℕ). (first.log ++ calls_behind (length first.events) second.log) ++ calls_behind n third.log) (many_events first second)
       ∙ ap (λ (calls : List ℕ). (first.log ++ calls_behind (length first.events) second.log) ++ calls)
       (calls_twice (length first.events) (length second.events) third.log)
       ∙ append_assoc first.log (calls_behind (length first.events) second.log) (calls_behind (length first.events) (calls_behind (length second.events) third.log))
@@ -51,7 +42,7 @@ module _ (first second third : Recording) where
   same_events : (joined_traces (joined_traces first second) third).events ≡ (joined_traces first (joined_traces second third)).events
   same_events =
       ap₂ (λ (m p : ℕ). (first.events ++ map (event_behind (length first.events) (length first.log)) second.events) ++ map (event_behind m p) third.events)
-      many_events many_places
+      (many_events first second) (many_places first second)
       ∙ ap (λ (events : List Event). (first.events ++ map (event_behind (length first.events) (length first.log)) second.events) ++ events)
       (events_twice (length first.events) (length second.events) (length first.log) (length second.log) third.events)
       ∙ append_assoc first.events (map (event_behind (length first.events) (length first.log)) second.events)
@@ -61,7 +52,7 @@ module _ (first second third : Recording) where
       (map (event_behind (length second.events) (length second.log)) third.events)))
 
   same_dumps : (joined_traces (joined_traces first second) third).dumps ≡ (joined_traces first (joined_traces second third)).dumps
-  same_dumps = ap (λ (p : ℕ). map (dump_behind p) third.dumps) many_places ∙ dumps_twice (length first.log) (length second.log) third.dumps
+  same_dumps = ap (λ (p : ℕ). map (dump_behind p) third.dumps) (many_places first second) ∙ dumps_twice (length first.log) (length second.log) third.dumps
 
   pub joined_associate : joined_traces (joined_traces first second) third ≡ joined_traces first (joined_traces second third)
   joined_associate = λ i. record {

@@ -1,3 +1,4 @@
+pub mod Lengths
 pub mod Lists
 pub mod Parts
 pub mod Orders

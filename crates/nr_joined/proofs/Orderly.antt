@@ -1,6 +1,5 @@
 -- Recordings whose replies answer earlier calls and whose log has their own calls, and two of them as one.
-use Rattle.std.proofs.Common.{◌≡◌, ℕ, zero, suc, ◌+◌, ◌<◌, ◌⊎◌, inl, inr, List, [], ◌∷◌, length, map, slice_get, Some, ap, sym, ◌∙◌, subst, arith}
-use Rattle.std.proofs.lemmas.List.{length-append, length-map}
+use Rattle.std.proofs.Common.{◌≡◌, ℕ, zero, suc, ◌+◌, ◌<◌, ◌⊎◌, inl, inr, List, [], ◌∷◌, length, slice_get, Some, ap, sym, ◌∙◌, subst, arith}
 use Rattle.vs_types.specs.Space.{Space}
 use Rattle.nr_trace.specs.Recording.{Recording}
 use Rattle.nr_trace.specs.Calls.{Response, reply_of}
@@ -8,8 +7,9 @@ use Rattle.nr_trace.specs.Laws.{HasCleanLog}
 use Rattle.nr_trace.specs.Orders.{space_from}
 use Rattle.nr_trace.proofs.LawsOfCalls.{call_within, placed_is_update, reply_behind_call, update_is_call}
 use Rattle.nr_trace.proofs.LawsOfLists.{In}
-use Rattle.nr_joined.specs.Joined.{event_behind, joined_traces}
+use Rattle.nr_joined.specs.Joined.{joined_traces}
 use Rattle.nr_joined.specs.Run.{IsOrderly}
+use Rattle.nr_joined.proofs.Lengths.{many_events}
 use Rattle.nr_joined.proofs.Lists.{split_at}
 use Rattle.nr_joined.proofs.Orders.{AreOf, space_both}
 use Rattle.nr_joined.proofs.Parts.{reply_left, reply_from_right}
@@ -44,16 +44,11 @@ module _ (first second : Recording) (before : IsOrderly first) (behind : IsOrder
         let number : length first.events + own.call ≡ reply.call = ap (λ (r : Response). r.call) same in
         omega arith
 
-  many_events : length whole.events ≡ length first.events + length second.events
-  many_events =
-      length-append first.events (map (event_behind (length first.events) (length first.log)) second.events)
-      ∙ ap (λ (n : ℕ). length first.events + n) (length-map second.events (event_behind (length first.events) (length first.log)))
-
   own_both : (place call : ℕ) → slice_get whole.log place ≡ Some call → call < length whole.events
   own_both place call is = by_side (placed_in first second place call is) where
     by_side : (slice_get first.log place ≡ Some call) ⊎ PlacedRight first second place call → call < length whole.events
-    by_side (inl here) = let l = before.own place call here in let all = many_events in omega (arith, l, all)
-    by_side (inr (at, e, own, own_is, same)) = let l = behind.own at own own_is in let all = many_events in omega (arith, l, all, same)
+    by_side (inl here) = let l = before.own place call here in let all = many_events first second in omega (arith, l, all)
+    by_side (inr (at, e, own, own_is, same)) = let l = behind.own at own own_is in let all = many_events first second in omega (arith, l, all, same)
 
   pub orderly_both : IsOrderly whole
   orderly_both = record { earlier = earlier_both; own = own_both }

@@ -1,11 +1,11 @@
 -- Up to where the addresses behind one have the same changes.
-use Rattle.std.proofs.Common.{◌≡◌, ℕ, ◌+◌, ◌-◌, ◌%◌, ◌<◌, ◌≤◌, ◌↔◌, ◌⊎◌, inl, inr, List, Contains, get_or, length, min, sym, ◌∙◌, arith}
+use Rattle.std.proofs.Common.{◌≡◌, ℕ, ◌+◌, ◌-◌, ◌%◌, ◌<◌, ◌≤◌, inl, inr, List, Contains, get_or, length, min, arith}
 use Rattle.std.proofs.lemmas.Bool.{cases_lt}
 use Rattle.vs_types.specs.Page.{bytes_of, level_of}
 use Rattle.vs_types.specs.declared.page.Size.{Size}
 use Rattle.vs_types.specs.declared.page.Size.TheVariants.{K4, M2, G1}
 use Rattle.vs_types.proofs.Pages.{covers_means, level_at_most}
-use Rattle.nr_touch.specs.inside.Alike.{AreAlike, AreAlikeTo, IsAlikeIn, IsBefore}
+use Rattle.nr_touch.specs.inside.Alike.{AreAlikeTo, IsAlikeIn, IsBefore}
 use Rattle.nr_touch.specs.inside.Bounds.{IsBoundary}
 use Rattle.nr_touch.specs.inside.Changes.{number_at}
 use Rattle.nr_touch.specs.inside.Columns.{AreColumns, Covers, IsNumbered, IsOf}
@@ -22,31 +22,31 @@ base_at _ a base e low high = omega (arith, e, low, high)
 
 module _ (changes : List PlacedChange) (numbered : (c : PlacedChange) → Contains changes c → IsNumbered c) (address small large huge behind last : ℕ)
     (of_small : IsAlikeIn changes address K4 small) (of_large : IsAlikeIn changes address M2 large) (of_huge : IsAlikeIn changes address G1 huge)
-    (before : IsBefore changes address behind) (low_small : last ≤ small) (low_large : last ≤ large) (low_huge : last ≤ huge) (low_behind : last ≤ behind) where
+    (before : IsBefore changes address behind) (low : last ≤ min (min (min small large) huge) behind) where
   within : (size : Size) (c : PlacedChange) → Contains changes c → IsOf (number_at address size) c → last < address - address % bytes_of size + bytes_of size
-  within K4 c has of = let w = of_small.within c has of in omega (arith, w, low_small)
-  within M2 c has of = let w = of_large.within c has of in omega (arith, w, low_large)
-  within G1 c has of = let w = of_huge.within c has of in omega (arith, w, low_huge)
+  within K4 c has of = let w = of_small.within c has of in omega (arith, w, low)
+  within M2 c has of = let w = of_large.within c has of in omega (arith, w, low)
+  within G1 c has of = let w = of_huge.within c has of in omega (arith, w, low)
 
   forth : (b : ℕ) → address ≤ b → b ≤ last → (c : PlacedChange) → Contains changes c → Covers address c → Covers b c
-  forth b low high c has covered =
+  forth b from high c has covered =
       let page = c.change.page in
       let at = (covers_means page address).0 covered in
       let w = within page.size c has (number_covered c address (numbered c has) covered) in
       let base = base_at page.size address page.base (numbered c has).aligned at.0 at.1 in
-      (covers_means page b).1 (omega (arith, at.0, low), omega (arith, w, base, high))
+      (covers_means page b).1 (omega (arith, at.0, from), omega (arith, w, base, high))
 
   back : (b : ℕ) → address ≤ b → b ≤ last → (c : PlacedChange) → Contains changes c → Covers b c → Covers address c
-  back b low high c has covered =
+  back b from high c has covered =
       let page = c.change.page in
       let at = (covers_means page b).0 covered in
       elim (cases_lt address page.base) [
-        | inl later ↦ absurd (let far = before.none c has later in omega (arith, far, low_behind, high, at.0))
-        | inr begun ↦ (covers_means page address).1 (begun, omega (arith, at.1, low))
+        | inl later ↦ absurd (let far = before.none c has later in omega (arith, far, low, high, at.0))
+        | inr begun ↦ (covers_means page address).1 (begun, omega (arith, at.1, from))
       ]
 
   pub alike_to : address ≤ last → AreAlikeTo changes address last
-  alike_to up = record { up = up; alike = λ b low high c has. (forth b low high c has, back b low high c has) }
+  alike_to up = record { up = up; alike = λ b from high c has. (forth b from high c has, back b from high c has) }
 
 -- ---- the first page behind an address
 

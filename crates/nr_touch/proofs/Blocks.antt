@@ -13,21 +13,11 @@ use Rattle.nr_touch.proofs.Sizes.{own_number}
 -- two stretches at multiples of their sizes that share a number: the smaller one lies in the greater one
 lies_in : (t s : Size) (q p x : ℕ) → q % bytes_of t ≡ 0 → p % bytes_of s ≡ 0 → q ≤ x → x < q + bytes_of t → p ≤ x → x < p + bytes_of s
     → ((p ≤ q) × (q < p + bytes_of s)) ⊎ ((q ≤ p) × (p < q + bytes_of t))
-lies_in K4 s q p x a b low high up down = by s p b up down where
-  by : (s : Size) (p : ℕ) → p % bytes_of s ≡ 0 → p ≤ x → x < p + bytes_of s → ((p ≤ q) × (q < p + bytes_of s)) ⊎ ((q ≤ p) × (p < q + bytes_of K4))
-  by K4 p b up down = inl (omega (arith, a, b, low, high, up, down), omega (arith, a, b, low, high, up, down))
-  by M2 p b up down = inl (omega (arith, a, b, low, high, up, down), omega (arith, a, b, low, high, up, down))
-  by G1 p b up down = inl (omega (arith, a, b, low, high, up, down), omega (arith, a, b, low, high, up, down))
-lies_in M2 s q p x a b low high up down = by s p b up down where
-  by : (s : Size) (p : ℕ) → p % bytes_of s ≡ 0 → p ≤ x → x < p + bytes_of s → ((p ≤ q) × (q < p + bytes_of s)) ⊎ ((q ≤ p) × (p < q + bytes_of M2))
-  by K4 p b up down = inr (omega (arith, a, b, low, high, up, down), omega (arith, a, b, low, high, up, down))
-  by M2 p b up down = inl (omega (arith, a, b, low, high, up, down), omega (arith, a, b, low, high, up, down))
-  by G1 p b up down = inl (omega (arith, a, b, low, high, up, down), omega (arith, a, b, low, high, up, down))
-lies_in G1 s q p x a b low high up down = by s p b up down where
-  by : (s : Size) (p : ℕ) → p % bytes_of s ≡ 0 → p ≤ x → x < p + bytes_of s → ((p ≤ q) × (q < p + bytes_of s)) ⊎ ((q ≤ p) × (p < q + bytes_of G1))
-  by K4 p b up down = inr (omega (arith, a, b, low, high, up, down), omega (arith, a, b, low, high, up, down))
-  by M2 p b up down = inr (omega (arith, a, b, low, high, up, down), omega (arith, a, b, low, high, up, down))
-  by G1 p b up down = inl (omega (arith, a, b, low, high, up, down), omega (arith, a, b, low, high, up, down))
+lies_in K4 K4 q p x a b low high up down = inl (omega (arith, a, b, low, high, up, down), omega (arith, a, b, low, high, up, down))
+lies_in M2 K4 q p x a b low high up down = inr (omega (arith, a, b, low, high, up, down), omega (arith, a, b, low, high, up, down))
+lies_in G1 K4 q p x a b low high up down = inr (omega (arith, a, b, low, high, up, down), omega (arith, a, b, low, high, up, down))
+lies_in G1 M2 q p x a b low high up down = inr (omega (arith, a, b, low, high, up, down), omega (arith, a, b, low, high, up, down))
+lies_in _ _ q p x a b low high up down = inl (omega (arith, a, b, low, high, up, down), omega (arith, a, b, low, high, up, down))
 
 some_bytes : (size : Size) (n : ℕ) → n < n + bytes_of size
 some_bytes K4 n = omega arith

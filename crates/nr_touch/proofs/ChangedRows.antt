@@ -1,5 +1,5 @@
 -- The rows of a block, from the last one back: which of them lead to the memory of a release.
-use Rattle.std.proofs.Common.{◌≡◌, ℕ, ◌+◌, ◌*◌, ◌<◌, ◌≤◌, inl, inr, List, Contains, get_or, length, slice_get, Some, sym, ap, ◌∙◌, subst, arith}
+use Rattle.std.proofs.Common.{◌≡◌, ℕ, ◌+◌, ◌*◌, ◌<◌, ◌≤◌, inl, inr, List, get_or, length, slice_get, Some, sym, ap, ◌∙◌, subst, arith}
 use Rattle.std.proofs.lemmas.Bool.{cases_lt}
 use Rattle.vs_types.specs.Space.{Space}
 use Rattle.vs_types.specs.Page.{bytes_of}
@@ -7,17 +7,15 @@ use Rattle.vs_types.specs.declared.page.Page.{Page}
 use Rattle.vs_types.specs.declared.page.Size.{Size}
 use Rattle.nr_trace.specs.Recording.{Recording}
 use Rattle.nr_touch.specs.Releases.{HasPhys}
-use Rattle.nr_touch.specs.inside.Blocks.{IsBlockOf}
 use Rattle.nr_touch.specs.inside.Bounds.{IsBoundary}
-use Rattle.nr_touch.specs.inside.Lives.{AreLives, HaveRows}
-use Rattle.nr_touch.specs.inside.Reached.{FindsPage, IsSamePlace, LeadsSo}
+use Rattle.nr_touch.specs.inside.Lives.{AreLives}
+use Rattle.nr_touch.specs.inside.Reached.{FindsAt, IsSamePlace, LeadsBy, LeadsSo}
 use Rattle.nr_touch.specs.inside.Stays.{AreStretches}
 use Rattle.nr_touch.specs.declared.changes.change.PlacedChange.{PlacedChange}
 use Rattle.nr_touch.specs.declared.releases.lives.Lives.{Lives}
 use Rattle.nr_touch.specs.declared.releases.release.Release.{Release}
 use Rattle.nr_touch.specs.declared.releases.stays.Stay.{Stay}
 use Rattle.nr_touch.proofs.Found.{far_page}
-use Rattle.nr_touch.proofs.Lefts.{in_got}
 
 -- no row of the block from an index on whose stay has the event of the release leads to its memory
 abbrev pub NoneLeadsFrom : Space → Recording → List PlacedChange → Release → List Stay → Lives → ℕ → ℕ → Type 0
@@ -52,31 +50,24 @@ module _ (start : Space) (segment : Recording) (earlier : List PlacedChange) (re
     | inr here ↦ let ends = are.over last k within past here stay at in omega (arith, ends, over, is_there)
   ]
 
-  -- no stay leads there, where no row from an index on does, and none before it has the block
-  pub none_of_block : HaveRows stays lives → (end : ℕ) → ((k : ℕ) → k < end → get_or lives.blocks.items k 0 ≡ block → ⊥)
-      → NoneLeadsFrom start segment earlier release stays lives block end → (stay : Stay) → Contains stays stay → IsBlockOf stay.page block
-      → stay.from ≤ release.made → release.made ≤ stay.until → LeadsSo start segment earlier release stay.page → ⊥
-  none_of_block have end early none stay has of first last leads =
-      let (row, at) = in_got stays stay has in
-      let (k, less, own, from, until, is) = have stay row block release.made at of first last in
-      elim (cases_lt k end) [
-        | inl low ↦ early k low own
-        | inr past ↦ none k stay past less own from (ap (slice_get stays) is ∙ at) last leads
-      ]
-
 -- what leads there so does as a page of the same place
-pub same_place : (start : Space) (segment : Recording) (earlier : List PlacedChange) (release : Release) (page other : Page) → IsSamePlace page other
-    → LeadsSo start segment earlier release other → LeadsSo start segment earlier release page
-same_place start segment earlier release page other same leads =
-    let offset = leads.frame * 4096 in
-    record {
-      frame = leads.frame;
-      within = subst (λ (size : Size). offset < bytes_of size) (sym same.size) leads.within;
-      has = subst (λ (phys : ℕ). HasPhys release (phys + offset)) (sym same.phys) leads.has;
-      own = leads.own;
-      same = record { base = same.base ∙ leads.same.base; size = same.size ∙ leads.same.size; phys = same.phys ∙ leads.same.phys };
-      finds = subst (λ (base : ℕ). FindsPage start segment earlier release.made leads.own (base + offset)) (sym same.base) leads.finds;
-    }
+pub same_place : (start : Space) (segment : Recording) (earlier : List PlacedChange) (release : Release) (page other : Page) (place most : ℕ)
+    → IsSamePlace page other → place ≤ most → LeadsBy start segment earlier release other place → LeadsBy start segment earlier release page most
+same_place start segment earlier release page other place most same up (leads, low) =
+    let offset = leads.frame * 4096 in (
+      record {
+        frame = leads.frame;
+        within = subst (λ (size : Size). offset < bytes_of size) (sym same.size) leads.within;
+        has = subst (λ (phys : ℕ). HasPhys release (phys + offset)) (sym same.phys) leads.has;
+        own = leads.own;
+        same = record { base = same.base ∙ leads.same.base; size = same.size ∙ leads.same.size; phys = same.phys ∙ leads.same.phys };
+        finds = (
+          leads.finds.0,
+          subst (λ (base : ℕ). FindsAt start segment earlier release.made leads.own (base + offset) leads.finds.0) (sym same.base) leads.finds.1,
+        );
+      },
+      omega (arith, low, up),
+    )
 
 -- a row of another block: those before it are of others too
 pub other_block : (lives : Lives) → AreLives lives → (block last : ℕ) → last < length lives.blocks.items → get_or lives.blocks.items last 0 ≤ block

@@ -29,16 +29,16 @@ none_covers address mode access (Some page) e = absurd (by (allows page.rights m
   by true e = cc
   by false e = other_code mode access (let same : fault_code false mode access ≡ fault_code true mode access = cc in same)
 
-module _ (start : Space) (trace : Recording) (changes : List PlacedChange) (are : AreChanges start trace changes) (touch : Touch) (last : ℕ)
-    (ahead : IsAhead changes (λ c. Covers touch.address c × (touch.answered < c.made)) (length trace.log) last) where
+module _ (start : Space) (trace : Recording) (changes : List PlacedChange) (are : AreChanges start trace changes) (touch : Touch) (last places : ℕ)
+    (all : places ≡ length trace.log) (ahead : IsAhead changes (λ c. Covers touch.address c × (touch.answered < c.made)) places last) where
   pub lagging_within : IsFaultOfNone touch → IsAnsweredWithin start trace touch touch.known last → IsFaultOfLagging start trace touch
   lagging_within fault (m, low, high, answered) = (
     fault,
     m,
     record {
-      within = let most = last_within start trace changes are touch last ahead in omega (arith, most, high);
+      within = let most = last_within start trace changes are touch last places all ahead in omega (arith, most, high);
       known = low;
-      not_foreseen = none_foreseen start trace changes are touch last ahead m high;
+      not_foreseen = none_foreseen start trace changes are touch last places all ahead m high;
       absent = none_covers touch.address touch.mode touch.access (page_after start trace touch.address m) (sym fault ∙ answered);
     },
   )
@@ -46,7 +46,7 @@ module _ (start : Space) (trace : Recording) (changes : List PlacedChange) (are 
   pub within_lagging : IsFaultOfLagging start trace touch → (touch.known ≤ last) × IsAnsweredWithin start trace touch touch.known last
   within_lagging (fault, m, it) =
       let low = it.known in
-      let high = up_to_foreseen start trace changes are touch last ahead m it.within it.not_foreseen in (
+      let high = up_to_foreseen start trace changes are touch last places all ahead m it.within it.not_foreseen in (
         omega (arith, low, high),
         (m, low, high, fault ∙ ap (allow_in_page touch.address touch.mode touch.access) (sym it.absent)),
       )

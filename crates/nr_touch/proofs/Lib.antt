@@ -10,12 +10,15 @@ pub mod Lagging
 pub mod Lefts
 pub mod LivesFound
 pub mod Looked
+pub mod NextChanges
+pub mod OverRows
 pub mod Overs
 pub mod QuietPages
 pub mod QuietRows
 pub mod Raised
 pub mod ReachedPages
 pub mod Replayed
+pub mod SamePages
 pub mod SeenPages
 pub mod Sighted
 pub mod Sizes
@@ -24,6 +27,7 @@ pub mod StaysFound
 pub mod StaysSpace
 pub mod StepChanges
 pub mod StretchRows
+pub mod Tests
 pub mod TouchesBeside
 pub mod Undone
 pub mod Walked

@@ -1,7 +1,8 @@
 -- The looks before changes that answer a touch, by the sights of them.
-use Rattle.std.proofs.Common.{◌≡◌, ℕ, ◌+◌, ◌-◌, ◌%◌, ◌<◌, ◌≤◌, ◌⊎◌, inl, inr, Bool, true, false, cond, Option, Some, None, Contains, map, refl, sym, ap, ◌∙◌}
+use Rattle.std.proofs.Common.{◌≡◌, ℕ, ◌+◌, ◌-◌, ◌%◌, ◌<◌, ◌≤◌, ◌⊎◌, inl, inr, Bool, true, false, cond, List, Some, None, Contains, map, refl, sym, ap, ◌∙◌, subst}
 use Rattle.std.proofs.Common.{arith}
-use Rattle.std.proofs.lemmas.Bool.{false≢true}
+use Rattle.std.specs.List.Sorted.{IsPermutation}
+use Rattle.std.proofs.lemmas.Bool.{cases_Bool}
 use Rattle.std.proofs.lemmas.List.Sorted.{IsPermutation-sym, Contains-permutation}
 use Rattle.vs_types.specs.Access.{allows, fault_code}
 use Rattle.vs_types.specs.Codes.{rights_code}
@@ -11,7 +12,6 @@ use Rattle.vs_types.specs.declared.access.Access.{Access}
 use Rattle.vs_types.specs.declared.access.Mode.{Mode}
 use Rattle.vs_types.specs.declared.answer.Answer.{Answer}
 use Rattle.vs_types.specs.declared.answer.Answer.TheVariants.{Allowed, Fault}
-use Rattle.vs_types.specs.declared.page.Page.{Page}
 use Rattle.vs_types.specs.declared.page.Rights.{Rights}
 use Rattle.vs_types.specs.declared.page.Size.{Size}
 use Rattle.vs_types.specs.declared.page.Size.TheVariants.{K4, M2, G1}
@@ -21,86 +21,57 @@ use Rattle.nr_touch.specs.declared.changes.change.PlacedChange.{PlacedChange}
 use Rattle.nr_touch.specs.declared.changes.history.History.{History}
 use Rattle.nr_touch.specs.declared.changes.sights.Sight.{Sight}
 use Rattle.nr_touch.specs.declared.touches.touch.Touch.{Touch}
-use Rattle.nr_touch.specs.inside.Changes.{number_at}
+use Rattle.nr_touch.specs.inside.Changes.{number_at, page_before}
 use Rattle.nr_touch.specs.inside.Columns.{AreColumns, Covers, IsOf}
-use Rattle.nr_touch.specs.inside.Sights.{HasRights, HasSight, IsAnsweredBetween, kind_of, kind_sight_of, sight_of}
+use Rattle.nr_touch.specs.inside.Sights.{HasRights, HasSight, IsAnsweredBetween, IsLike, kind_of, kind_sight_of, sight_of}
 use Rattle.nr_touch.proofs.Sighted.{contains_map, map_contains}
-use Rattle.nr_touch.proofs.Sizes.{covered_numbered, number_covered}
+use Rattle.nr_touch.proofs.Sizes.{by_size, covered_numbered}
 
 -- ---- which looks answer an access so
 
-module _ (page : Page) (a : ℕ) (mode : Mode) (access : Access) where
-  -- in the page, where it was mapped
-  abbrev answer_in : Bool → Answer
-  answer_in mapped = allow_in_page a mode access (cond mapped (Some page) None)
+same_rights : (p q : Rights) → rights_code p + 1 ≡ rights_code q + 1 → p ≡ q
+same_rights p q e = sym (rights_back p) ∙ ap rights_from (let one : rights_code p ≡ rights_code q = omega (arith, e) in one) ∙ rights_back q
 
+module _ (change : Change) (a : ℕ) (mode : Mode) (access : Access) where
+  -- in the page, if its rights allow the access, or don't
   abbrev answer_by : Bool → Answer
-  answer_by allowed = cond allowed (Allowed (page.phys + (a - page.base))) (Fault (fault_code true mode access))
+  answer_by allowed = cond allowed (Allowed (change.page.phys + (a - change.page.base))) (Fault (fault_code true mode access))
 
-  allowed_means : (x : ℕ) (mapped : Bool) → Allowed x ≡ answer_in mapped
-      → (mapped ≡ true) × (allows page.rights mode access ≡ true) × (x ≡ page.phys + (a - page.base))
-  allowed_means x false e = absurd (cc)
-  allowed_means x true e = by (allows page.rights mode access) e where
-    by : (b : Bool) → Allowed x ≡ answer_by b → (true ≡ true) × (b ≡ true) × (x ≡ page.phys + (a - page.base))
-    by true e = (refl, refl, cc)
-    by false e = absurd (cc)
+  abbrev answer : Answer
+  answer = allow_in_page a mode access (page_before change)
 
-  fault_means : (code : ℕ) (mapped : Bool) → Fault code ≡ answer_in mapped
-      → ((mapped ≡ false) × (code ≡ fault_code false mode access))
-      ⊎ ((mapped ≡ true) × (allows page.rights mode access ≡ false) × (code ≡ fault_code true mode access))
-  fault_means code false e = inl (refl, cc)
-  fault_means code true e = by (allows page.rights mode access) e where
-    by : (b : Bool) → Fault code ≡ answer_by b
-        → ((true ≡ false) × (code ≡ fault_code false mode access)) ⊎ ((true ≡ true) × (b ≡ false) × (code ≡ fault_code true mode access))
-    by true e = absurd (cc)
-    by false e = inr (refl, refl, cc)
+  of_none : kind_of change ≡ 0 → answer ≡ Fault (fault_code false mode access)
+  of_none kind = by change.was_mapped kind where
+    by : (mapped : Bool) → cond mapped (rights_code change.page.rights + 1) 0 ≡ 0
+        → allow_in_page a mode access (cond mapped (Some change.page) None) ≡ Fault (fault_code false mode access)
+    by true k = absurd (omega (arith, k))
+    by false k = refl
 
-  is_allowed : (x : ℕ) (mapped : Bool) → mapped ≡ true → allows page.rights mode access ≡ true → x ≡ page.phys + (a - page.base)
-      → Allowed x ≡ answer_in mapped
-  is_allowed x false is so at = absurd (false≢true is)
-  is_allowed x true is so at = ap (λ n. Allowed n) at ∙ ap answer_by (sym so)
+  of_rights : (rights : Rights) (allowed : Bool) → kind_of change ≡ rights_code rights + 1 → allows rights mode access ≡ allowed → answer ≡ answer_by allowed
+  of_rights rights allowed kind so = by change.was_mapped kind where
+    by : (mapped : Bool) → cond mapped (rights_code change.page.rights + 1) 0 ≡ rights_code rights + 1
+        → allow_in_page a mode access (cond mapped (Some change.page) None) ≡ answer_by allowed
+    by true k = ap answer_by (ap (λ r. allows r mode access) (same_rights change.page.rights rights k) ∙ so)
+    by false k = absurd (omega (arith, k))
 
-  is_unmapped : (code : ℕ) (mapped : Bool) → mapped ≡ false → code ≡ fault_code false mode access → Fault code ≡ answer_in mapped
-  is_unmapped code true is of = absurd (false≢true (sym is))
-  is_unmapped code false is of = ap (λ n. Fault n) of
+  -- no page was there, or one with such rights
+  abbrev IsKind : Bool → Type 0
+  IsKind allowed = (allows change.page.rights mode access ≡ allowed) × (kind_of change ≡ rights_code change.page.rights + 1) × (answer ≡ answer_by allowed)
 
-  is_refused : (code : ℕ) (mapped : Bool) → mapped ≡ true → allows page.rights mode access ≡ false → code ≡ fault_code true mode access
-      → Fault code ≡ answer_in mapped
-  is_refused code false is so of = absurd (false≢true is)
-  is_refused code true is so of = ap (λ n. Fault n) of ∙ ap answer_by (sym so)
+  kinds : ((kind_of change ≡ 0) × (answer ≡ Fault (fault_code false mode access))) ⊎ (IsKind true ⊎ IsKind false)
+  kinds = elim change.was_mapped as (λ mapped. change.was_mapped ≡ mapped → ((kind_of change ≡ 0) × (answer ≡ Fault (fault_code false mode access)))
+      ⊎ (IsKind true ⊎ IsKind false)) [
+        | false ↦ λ e. inl (ap kind_by e, ap look_by e)
+        | true ↦ λ e. elim (cases_Bool (allows change.page.rights mode access)) [
+          | inl so ↦ inr (inl (so, ap kind_by e, ap look_by e ∙ ap answer_by so))
+          | inr so ↦ inr (inr (so, ap kind_by e, ap look_by e ∙ ap answer_by so))
+        ]
+      ] refl where
+        kind_by : Bool → ℕ
+        kind_by mapped = cond mapped (rights_code change.page.rights + 1) 0
 
--- ---- kinds
-
-same_rights : (p q : Rights) → rights_code p ≡ rights_code q → p ≡ q
-same_rights p q e = sym (rights_back p) ∙ ap rights_from e ∙ rights_back q
-
-one_less : (m n : ℕ) → m + 1 ≡ n + 1 → m ≡ n
-one_less m n e = omega arith
-
-not_one : (n : ℕ) → 0 ≡ n + 1 → ⊥
-not_one n e = omega arith
-
-module _ (change : Change) where
-  abbrev kind_by : Bool → ℕ
-  kind_by mapped = cond mapped (rights_code change.page.rights + 1) 0
-
-  kind_mapped : (rights : Rights) → kind_of change ≡ rights_code rights + 1 → (change.was_mapped ≡ true) × (change.page.rights ≡ rights)
-  kind_mapped rights e = by change.was_mapped e where
-    by : (w : Bool) → kind_by w ≡ rights_code rights + 1 → (w ≡ true) × (change.page.rights ≡ rights)
-    by true e = (refl, same_rights change.page.rights rights (one_less (rights_code change.page.rights) (rights_code rights) e))
-    by false e = absurd (not_one (rights_code rights) e)
-
-  kind_unmapped : kind_of change ≡ 0 → change.was_mapped ≡ false
-  kind_unmapped e = by change.was_mapped e where
-    by : (w : Bool) → kind_by w ≡ 0 → w ≡ false
-    by true e = absurd (not_one (rights_code change.page.rights) (sym e))
-    by false e = refl
-
-  mapped_kind : change.was_mapped ≡ true → kind_of change ≡ rights_code change.page.rights + 1
-  mapped_kind e = ap kind_by e
-
-  unmapped_kind : change.was_mapped ≡ false → kind_of change ≡ 0
-  unmapped_kind e = ap kind_by e
+        look_by : Bool → Answer
+        look_by mapped = allow_in_page a mode access (cond mapped (Some change.page) None)
 
 -- how far behind its base the address lies in the page of a size
 offset_in : (s t : Size) (base a : ℕ) → base % bytes_of s ≡ 0 → base + level_of s ≡ number_at a t → a - base ≡ a % bytes_of t
@@ -125,147 +96,101 @@ module _ (h : History) (are : AreColumns h) (touch : Touch) (size : Size) (first
       offset_in c.change.page.size size c.change.page.base touch.address is.aligned (sym is.number ∙ of)
 
   -- a sight in a list is that of a change, and the other way round
-  exact_change : (s : Sight) → Contains h.sights.exact.items s → (c : PlacedChange) × Contains h.changes.items c × (sight_of c ≡ s)
-  exact_change s has = map_contains sight_of h.changes.items s
-      (Contains-permutation h.sights.exact.items (map sight_of h.changes.items) s
-      (IsPermutation-sym (map sight_of h.changes.items) h.sights.exact.items are.sights.exact) has)
+  module _ (f : PlacedChange → Sight) (sights : List Sight) (same : IsPermutation (map f h.changes.items) sights)
+      (placed : (c : PlacedChange) → (f c).place ≡ c.place) (from : Sight) where
+    of_sight : HasSight sights from last → (c : PlacedChange) × Contains h.changes.items c × IsLike from (f c) × (from.place ≤ c.place) × (c.place < last)
+    of_sight (s, has, like, low, high) =
+        let (c, own, is) = map_contains f h.changes.items s
+        (Contains-permutation sights (map f h.changes.items) s (IsPermutation-sym (map f h.changes.items) sights same) has) in
+        let at : c.place ≡ s.place = sym (placed c) ∙ ap (λ (t : Sight). t.place) is in
+        (c, own, subst (IsLike from) (sym is) like, omega (arith, at, low), omega (arith, at, high))
 
-  change_exact : (c : PlacedChange) → Contains h.changes.items c → Contains h.sights.exact.items (sight_of c)
-  change_exact c has = Contains-permutation (map sight_of h.changes.items) h.sights.exact.items (sight_of c) are.sights.exact
-      (contains_map sight_of h.changes.items c has)
-
-  kind_change : (s : Sight) → Contains h.sights.kinds.items s → (c : PlacedChange) × Contains h.changes.items c × (kind_sight_of c ≡ s)
-  kind_change s has = map_contains kind_sight_of h.changes.items s
-      (Contains-permutation h.sights.kinds.items (map kind_sight_of h.changes.items) s
-      (IsPermutation-sym (map kind_sight_of h.changes.items) h.sights.kinds.items are.sights.kinds) has)
-
-  change_kind : (c : PlacedChange) → Contains h.changes.items c → Contains h.sights.kinds.items (kind_sight_of c)
-  change_kind c has = Contains-permutation (map kind_sight_of h.changes.items) h.sights.kinds.items (kind_sight_of c) are.sights.kinds
-      (contains_map kind_sight_of h.changes.items c has)
+    to_sight : (c : PlacedChange) → Contains h.changes.items c → IsLike from (f c) → from.place ≤ c.place → c.place < last → HasSight sights from last
+    to_sight c has like low high =
+        let at = placed c in
+        let listed = Contains-permutation (map f h.changes.items) sights (f c) same (contains_map f h.changes.items c has) in
+        (f c, listed, like, omega (arith, at, low), omega (arith, at, high))
 
   module _ (x : ℕ) (is : touch.answer ≡ Allowed x) where
+    -- a page in which the access is allowed so
+    with_page : (c : PlacedChange) → touch.answer ≡ allow_in_page touch.address touch.mode touch.access (page_before c.change)
+        → IsKind c.change touch.address touch.mode touch.access true × (x ≡ c.change.page.phys + (touch.address - c.change.page.base))
+    with_page c answered = elim (kinds c.change touch.address touch.mode touch.access) [
+      | inl none ↦ absurd (let look = none.1 in cc)
+      | inr (inl some) ↦ (some, let look = some.2 in cc)
+      | inr (inr some) ↦ absurd (let look = some.2 in cc)
+    ]
+
     pub none_allowed : x < touch.address % bytes_of size → Between → ⊥
     none_allowed less (c, has, of, low, high, answered) =
-        let it = allowed_means c.change.page touch.address touch.mode touch.access x c.change.was_mapped (sym is ∙ answered) in
-        let far = offset c has of in
-        let where_it_is = it.2 in
-        omega (arith, where_it_is, far, less)
+        let at = (with_page c answered).1 in let far = offset c has of in omega (arith, at, far, less)
 
     module _ (number phys : ℕ) (numbered : number ≡ number_at touch.address size) (at : phys ≡ x - touch.address % bytes_of size)
         (up : touch.address % bytes_of size ≤ x) where
       pub allowed_forth : HasRights h.sights.exact.items (sight_from number phys first) last touch true → Between
-      allowed_forth (rights, so, (s, has_s, like, low, high)) =
-          let (c, has, same) = exact_change s has_s in
-          let kind = kind_mapped c.change rights (ap (λ (t : Sight). t.kind) same ∙ like.kind) in
-          let of : c.number ≡ number_at touch.address size = ap (λ (t : Sight). t.number) same ∙ like.number ∙ numbered in
-          let frame : c.change.page.phys ≡ phys = ap (λ (t : Sight). t.phys) same ∙ like.phys in
-          let place : c.place ≡ s.place = ap (λ (t : Sight). t.place) same in
-          let far = offset c has of in (
-            c,
-            has,
-            of,
-            omega (arith, place, low),
-            omega (arith, place, high),
-            is ∙ is_allowed c.change.page touch.address touch.mode touch.access x c.change.was_mapped kind.0
-                (ap (λ r. allows r touch.mode touch.access) kind.1 ∙ so) (omega (arith, frame, far, at, up)),
-          )
+      allowed_forth (rights, so, some) =
+          let (c, has, like, low, high) = of_sight sight_of h.sights.exact.items are.sights.exact (λ c. refl)
+          (record (sight_from number phys first) { kind = rights_code rights + 1 }) some in
+          let of = like.number ∙ numbered in
+          let far = offset c has of in
+          let there : x ≡ c.change.page.phys + (touch.address - c.change.page.base) = omega (arith, like.phys, far, at, up) in
+          (c, has, of, low, high, is ∙ ap (λ n. Allowed n) there ∙ sym (of_rights c.change touch.address touch.mode touch.access rights true like.kind so))
 
       pub allowed_back : Between → HasRights h.sights.exact.items (sight_from number phys first) last touch true
       allowed_back (c, has, of, low, high, answered) =
-          let it = allowed_means c.change.page touch.address touch.mode touch.access x c.change.was_mapped (sym is ∙ answered) in
+          let ((so, kind, look), there) = with_page c answered in
           let far = offset c has of in
-          let where_it_is = it.2 in (
-            c.change.page.rights,
-            it.1,
-            (
-              sight_of c,
-              change_exact c has,
-              record { number = of ∙ sym numbered; phys = omega (arith, where_it_is, far, at); kind = mapped_kind c.change it.0 },
-              low,
-              high,
-            ),
-          )
+          let some = to_sight sight_of h.sights.exact.items are.sights.exact (λ c. refl)
+          (record (sight_from number phys first) { kind = rights_code c.change.page.rights + 1 }) c has
+          (record { number = of ∙ sym numbered; phys = omega (arith, there, far, at); kind = kind }) low high in
+          (c.change.page.rights, so, some)
 
-  module _ (code : ℕ) (is : touch.answer ≡ Fault code) (number : ℕ) (numbered : number ≡ number_at touch.address size) where
-    pub unmapped_forth : code ≡ fault_code false touch.mode touch.access → HasSight h.sights.kinds.items (sight_from number 0 first) last → Between
-    unmapped_forth of_none (s, has_s, like, low, high) =
-        let (c, has, same) = kind_change s has_s in
-        let mapped = kind_unmapped c.change (ap (λ (t : Sight). t.kind) same ∙ like.kind) in
-        let of : c.number ≡ number_at touch.address size = ap (λ (t : Sight). t.number) same ∙ like.number ∙ numbered in
-        let place : c.place ≡ s.place = ap (λ (t : Sight). t.place) same in (
-          c,
-          has,
-          of,
-          omega (arith, place, low),
-          omega (arith, place, high),
-          is ∙ is_unmapped c.change.page touch.address touch.mode touch.access code c.change.was_mapped mapped of_none,
-        )
+  module _ (code : ℕ) (is : touch.answer ≡ Fault code) where
+    -- where no page was there, or one in which the access isn't allowed
+    fault_of : (c : PlacedChange) → touch.answer ≡ allow_in_page touch.address touch.mode touch.access (page_before c.change)
+        → ((kind_of c.change ≡ 0) × (code ≡ fault_code false touch.mode touch.access))
+        ⊎ (IsKind c.change touch.address touch.mode touch.access false × (code ≡ fault_code true touch.mode touch.access))
+    fault_of c answered = elim (kinds c.change touch.address touch.mode touch.access) [
+      | inl none ↦ inl (none.0, let look = none.1 in cc)
+      | inr (inl some) ↦ absurd (let look = some.2 in cc)
+      | inr (inr some) ↦ inr (some, let look = some.2 in cc)
+    ]
 
-    pub unmapped_back : code ≡ fault_code false touch.mode touch.access → Between → HasSight h.sights.kinds.items (sight_from number 0 first) last
-    unmapped_back of_none (c, has, of, low, high, answered) = elim
-        (fault_means c.change.page touch.address touch.mode touch.access code c.change.was_mapped (sym is ∙ answered)) [
-          | inl none ↦ (
-            kind_sight_of c,
-            change_kind c has,
-            record { number = of ∙ sym numbered; phys = refl; kind = unmapped_kind c.change none.0 },
-            low,
-            high,
-          )
-          | inr some ↦ let with_page = some.2 in absurd (codes_differ with_page)
-        ] where
-          codes_differ : code ≡ fault_code true touch.mode touch.access → ⊥
-          codes_differ with_page = omega (arith, of_none, with_page)
+    module _ (number : ℕ) (numbered : number ≡ number_at touch.address size) where
+      pub unmapped_forth : code ≡ fault_code false touch.mode touch.access → HasSight h.sights.kinds.items (sight_from number 0 first) last → Between
+      unmapped_forth none some =
+          let (c, has, like, low, high) = of_sight kind_sight_of h.sights.kinds.items are.sights.kinds (λ c. refl) (sight_from number 0 first) some in
+          (c, has, like.number ∙ numbered, low, high, is ∙ ap (λ n. Fault n) none ∙ sym (of_none c.change touch.address touch.mode touch.access like.kind))
 
-    pub refused_forth : code ≡ fault_code true touch.mode touch.access → HasRights h.sights.kinds.items (sight_from number 0 first) last touch false → Between
-    refused_forth of_some (rights, so, (s, has_s, like, low, high)) =
-        let (c, has, same) = kind_change s has_s in
-        let kind = kind_mapped c.change rights (ap (λ (t : Sight). t.kind) same ∙ like.kind) in
-        let of : c.number ≡ number_at touch.address size = ap (λ (t : Sight). t.number) same ∙ like.number ∙ numbered in
-        let place : c.place ≡ s.place = ap (λ (t : Sight). t.place) same in (
-          c,
-          has,
-          of,
-          omega (arith, place, low),
-          omega (arith, place, high),
-          is ∙ is_refused c.change.page touch.address touch.mode touch.access code c.change.was_mapped kind.0
-              (ap (λ r. allows r touch.mode touch.access) kind.1 ∙ so) of_some,
-        )
+      pub unmapped_back : code ≡ fault_code false touch.mode touch.access → Between → HasSight h.sights.kinds.items (sight_from number 0 first) last
+      unmapped_back none (c, has, of, low, high, answered) = elim (fault_of c answered) [
+        | inl (kind, so) ↦ to_sight kind_sight_of h.sights.kinds.items are.sights.kinds (λ c. refl) (sight_from number 0 first) c has
+            (record { number = of ∙ sym numbered; phys = refl; kind = kind }) low high
+        | inr (some, so) ↦ absurd (omega (arith, none, so))
+      ]
 
-    pub refused_back : code ≡ fault_code true touch.mode touch.access → Between → HasRights h.sights.kinds.items (sight_from number 0 first) last touch false
-    refused_back of_some (c, has, of, low, high, answered) = elim
-        (fault_means c.change.page touch.address touch.mode touch.access code c.change.was_mapped (sym is ∙ answered)) [
-          | inl none ↦ let without = none.1 in absurd (codes_differ without)
-          | inr some ↦ (
-            c.change.page.rights,
-            some.1,
-            (
-              kind_sight_of c,
-              change_kind c has,
-              record { number = of ∙ sym numbered; phys = refl; kind = mapped_kind c.change some.0 },
-              low,
-              high,
-            ),
-          )
-        ] where
-          codes_differ : code ≡ fault_code false touch.mode touch.access → ⊥
-          codes_differ without = omega (arith, of_some, without)
+      pub refused_forth : code ≡ fault_code true touch.mode touch.access → HasRights h.sights.kinds.items (sight_from number 0 first) last touch false → Between
+      refused_forth page (rights, so, some) =
+          let (c, has, like, low, high) = of_sight kind_sight_of h.sights.kinds.items are.sights.kinds (λ c. refl)
+          (record (sight_from number 0 first) { kind = rights_code rights + 1 }) some in
+          let look = of_rights c.change touch.address touch.mode touch.access rights false like.kind so in
+          (c, has, like.number ∙ numbered, low, high, is ∙ ap (λ n. Fault n) page ∙ sym look)
+
+      pub refused_back : code ≡ fault_code true touch.mode touch.access → Between → HasRights h.sights.kinds.items (sight_from number 0 first) last touch false
+      refused_back page (c, has, of, low, high, answered) = elim (fault_of c answered) [
+        | inl (kind, so) ↦ absurd (omega (arith, page, so))
+        | inr ((so, kind, look), too) ↦
+            let some = to_sight kind_sight_of h.sights.kinds.items are.sights.kinds (λ c. refl)
+            (record (sight_from number 0 first) { kind = rights_code c.change.page.rights + 1 }) c has
+            (record { number = of ∙ sym numbered; phys = refl; kind = kind }) low high in
+            (c.change.page.rights, so, some)
+      ]
 
     pub none_refused : (code ≡ fault_code false touch.mode touch.access → ⊥) → (code ≡ fault_code true touch.mode touch.access → ⊥) → Between → ⊥
-    none_refused no_page no_rights (c, has, of, low, high, answered) = elim
-        (fault_means c.change.page touch.address touch.mode touch.access code c.change.was_mapped (sym is ∙ answered)) [
-          | inl none ↦ no_page none.1
-          | inr some ↦ no_rights some.2
-        ]
-
-  -- an access is allowed or faults
-  pub none_other : ((x : ℕ) → touch.answer ≡ Allowed x → ⊥) → ((code : ℕ) → touch.answer ≡ Fault code → ⊥) → Between → ⊥
-  none_other no_frame no_fault (c, has, of, low, high, answered) = by_page (cond c.change.was_mapped (Some c.change.page) None) answered where
-    by_page : (o : Option Page) → touch.answer ≡ allow_in_page touch.address touch.mode touch.access o → ⊥
-    by_page None e = no_fault (fault_code false touch.mode touch.access) e
-    by_page (Some page) e = by (allows page.rights touch.mode touch.access) e where
-      by : (b : Bool) → touch.answer ≡ answer_by page touch.address touch.mode touch.access b → ⊥
-      by true e = no_frame (page.phys + (touch.address - page.base)) e
-      by false e = no_fault (fault_code true touch.mode touch.access) e
+    none_refused no_page no_rights (c, has, of, low, high, answered) = elim (fault_of c answered) [
+      | inl none ↦ no_page none.1
+      | inr some ↦ no_rights some.1
+    ]
 
 -- ---- in the pages of three sizes
 
@@ -277,11 +202,8 @@ module _ (h : History) (are : AreColumns h) (touch : Touch) (first last : ℕ) w
   of_size size (c, has, of, low, high, answered) =
       (c, has, covered_numbered c touch.address size (are.numbered c has) of, low, high, answered)
 
-  pub some_size : OfAddress → Between h are touch K4 first last ⊎ (Between h are touch M2 first last ⊎ Between h are touch G1 first last)
-  some_size (c, has, covered, low, high, answered) =
-      at c.change.page.size (number_covered c touch.address (are.numbered c has) covered) where
-        at : (size : Size) → IsOf (number_at touch.address size) c
-            → Between h are touch K4 first last ⊎ (Between h are touch M2 first last ⊎ Between h are touch G1 first last)
-        at K4 of = inl (c, has, of, low, high, answered)
-        at M2 of = inr (inl (c, has, of, low, high, answered))
-        at G1 of = inr (inr (c, has, of, low, high, answered))
+  pub in_sizes : (P : Type 0) → (Between h are touch K4 first last → P) → (Between h are touch M2 first last → P)
+      → (Between h are touch G1 first last → P) → OfAddress → P
+  in_sizes P small large huge (c, has, covered, low, high, answered) =
+      by_size h.changes.items are.numbered touch.address (λ d. P) c has covered (λ of. small (c, has, of, low, high, answered))
+      (λ of. large (c, has, of, low, high, answered)) (λ of. huge (c, has, of, low, high, answered))

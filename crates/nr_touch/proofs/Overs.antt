@@ -1,8 +1,11 @@
 -- When calls are over, and tests of lists that say so.
-use Rattle.std.proofs.Common.{◌≡◌, ◌↔◌, ℕ, zero, suc, ◌+◌, ◌<◌, ◌≤◌, ◌^◌, inl, inr, Bool, true, false, cond, List, [], ◌∷◌, ◌++◌, length, take}
+use Rattle.std.proofs.Common.{◌≡◌, ◌↔◌, ℕ, zero, suc, ◌+◌, ◌<◌, ◌≤◌, ◌^◌, inl, inr, Bool, not, true, false, cond, List, [], ◌∷◌, ◌++◌, length, take}
 use Rattle.std.proofs.Common.{get_or, slice_get, Some, refl, sym, ap, subst, ◌∙◌, arith}
 use Rattle.std.specs.Prelude.{count_by, option_and_then}
 use Rattle.std.specs.List.{list_any}
+use Rattle.std.specs.Bool.{Decides}
+use Rattle.std.proofs.Math.Bool.{◌||◌, or_comm, or-false}
+use Rattle.std.proofs.lemmas.Bool.Decides.{Decides-below_or, Decides-like, Decides-not}
 use Rattle.std.proofs.lemmas.Bool.{cases_lt, eqb-true, eq-eqb, or_cases, or_left, or_right}
 use Rattle.std.proofs.lemmas.List.Folds.{list_any-append}
 use Rattle.std.proofs.lemmas.List.Sums.{sum_by-append}
@@ -11,11 +14,10 @@ use Rattle.nr_trace.specs.Recording.{Recording}
 use Rattle.nr_trace.specs.Calls.{Answers, Response, reply_in}
 use Rattle.nr_trace.specs.Orders.{below}
 use Rattle.nr_trace.specs.declared.event.Event.{Event}
-use Rattle.nr_trace.specs.declared.event.Event.TheVariants.{Call, Release, Reply, Touch}
+use Rattle.nr_trace.specs.declared.event.Event.TheVariants.{Reply}
 use Rattle.nr_trace.proofs.LawsOfCalls.{answers_from, reply_in_event, reply_that_answers}
 use Rattle.nr_touch.specs.Beside.{is_over, is_reply_to}
-use Rattle.nr_touch.specs.inside.Changes.{AreReplies}
-use Rattle.nr_touch.proofs.Replayed.{replied}
+use Rattle.nr_touch.specs.Replies.{AreReplies}
 
 -- ---- tests of lists
 
@@ -34,23 +36,10 @@ taken_any p [] (suc n) k x low at is = absurd (cc)
 taken_any p (y ∷ xs) (suc n) zero x low at is = or_left (p y) (list_any p (take n xs)) (let same : y ≡ x = cc in ap p same ∙ is)
 taken_any p (y ∷ xs) (suc n) (suc k) x low at is = or_right (p y) (list_any p (take n xs)) (taken_any p xs n k x (omega arith) at is)
 
-pub any_below : (p : ℕ → Bool) (n : ℕ) → list_any p (below n) ≡ true → (k : ℕ) × (k < n) × (p k ≡ true)
-any_below p zero t = absurd (cc)
-any_below p (suc n) t = elim (or_cases (list_any p (below n)) (list_any p (n ∷ [])) (sym (list_any-append p (below n) (n ∷ [])) ∙ t)) [
-  | inl earlier ↦ (let (k, low, is) = any_below p n earlier in (k, omega arith, is))
-  | inr last ↦ elim (or_cases (p n) false last) [
-    | inl is ↦ (n, omega arith, is)
-    | inr never ↦ absurd (cc)
-  ]
-]
-
-pub below_any : (p : ℕ → Bool) (n k : ℕ) → k < n → p k ≡ true → list_any p (below n) ≡ true
-below_any p zero k low is = absurd (omega arith)
-below_any p (suc n) k low is = list_any-append p (below n) (n ∷ []) ∙ (elim (cases_lt k n) [
-  | inl lt ↦ or_left (list_any p (below n)) (list_any p (n ∷ [])) (below_any p n k lt is)
-  | inr here ↦ or_right (list_any p (below n)) (list_any p (n ∷ []))
-      (or_left (p n) false (let same : n ≡ k = omega arith in ap p same ∙ is))
-])
+pub any_below : (p : ℕ → Bool) (n : ℕ) → Decides (list_any p (below n)) ((k : ℕ) × (k < n) × (p k ≡ true))
+any_below p = Decides-below_or p (λ k. p k ≡ true) (λ n. list_any p (below n)) (λ k. (λ t. t, λ t. t)) refl (λ n.
+    list_any-append p (below n) (n ∷ []) ∙ or_comm (list_any p (below n)) (list_any p (n ∷ []))
+    ∙ ap (λ b. b || list_any p (below n)) (or-false (p n)))
 
 count_append : (p : ℕ → Bool) (xs : List ℕ) (n : ℕ) → count_by p (xs ++ n ∷ []) ≡ count_by p xs + cond (p n) 1 0
 count_append p xs n =
@@ -75,23 +64,24 @@ count_same p first (suc more) none =
 -- ---- calls that are open
 
 reply_there : (trace : Recording) (call k : ℕ) (event : Event) → slice_get trace.events k ≡ Some event → is_reply_to call event ≡ true → Answers trace k call
-reply_there trace call k (Call replica thread request) at is = absurd (cc)
-reply_there trace call k (Touch replica thread address mode access) at is = absurd (cc)
-reply_there trace call k (Release replica thread size phys) at is = absurd (cc)
 reply_there trace call k (Reply other place answer) at is =
     answers_from trace k call (record { call = other; at = place; answer = answer }) (ap (option_and_then reply_in) at) (eqb-true other call is)
+reply_there trace call k _ at is = absurd (cc)
 
 reply_says : (call : ℕ) (event : Event) (reply : Response) → reply_in event ≡ Some reply → reply.call ≡ call → is_reply_to call event ≡ true
-reply_says call (Call replica thread request) reply gives names = absurd (cc)
-reply_says call (Touch replica thread address mode access) reply gives names = absurd (cc)
-reply_says call (Release replica thread size phys) reply gives names = absurd (cc)
 reply_says call (Reply other at answer) reply gives names = eq-eqb other call (ap (λ (r : Response). r.call) (same_Some _ reply gives) ∙ names)
+reply_says call _ reply gives names = absurd (cc)
 
 pub one_more : (b : Bool) (count new : ℕ) → b ≡ true → new ≡ count + 1 → new ≡ count + cond b 1 0
 one_more b count new t sum = subst (λ (x : Bool). new ≡ count + cond x 1 0) (sym t) sum
 
 pub no_more : (b : Bool) (count new : ℕ) → b ≡ false → new ≡ count → new ≡ count + cond b 1 0
 no_more b count new f sum = subst (λ (x : Bool). new ≡ count + cond x 1 0) (sym f) (omega (arith, sum))
+
+-- the second number isn't below the first, where a test says so
+pub not_below : (a b : ℕ) (r : Bool) → Decides r (a < b) → Decides (not r) (b ≤ a)
+not_below a b r says = Decides-like (not r)
+    (λ (none : a < b → ⊥). elim (cases_lt a b) [ inl less ↦ absurd (none less) | inr more ↦ more ]) (λ more less. omega (arith, more, less)) (Decides-not r says)
 
 -- two tests that pass alike are one
 pub one_test : (a b : Bool) → (a ≡ true → b ≡ true) → (b ≡ true → a ≡ true) → a ≡ b
@@ -112,9 +102,9 @@ over_means trace call event = (there, back) where
       taken_any (is_reply_to call) trace.events event k which low at (reply_says call which reply gives names)
 
 -- the first reply to the call is before the event
-pub over_is : (trace : Recording) (replies : List ℕ) → AreReplies trace replies (length trace.events) → (call event : ℕ) → call < length replies
+pub over_is : (trace : Recording) (replies : List ℕ) → AreReplies trace replies → (call event : ℕ) → call < length replies
     → event < 2 ^ 32 → (is_over trace call event ≡ true) ↔ (get_or replies call 0 < event)
 over_is trace replies are call event within fits =
-    let by = replied trace replies call are within event fits in
+    let by = are.first call event within fits in
     let over = over_means trace call event in
     (λ t. by.1 (over.0 t), λ less. over.1 (by.0 less))

@@ -1,18 +1,20 @@
 -- A step of a pass that raises or lowers the bounds of pages.
-use Rattle.std.proofs.Common.{◌≡◌, ◌≢◌, ℕ, ◌+◌, ◌-◌, ◌<◌, ◌≤◌, ◌⊎◌, inl, inr, List, get_or, length, sym, ap, ◌∙◌, subst, arith}
-use Rattle.std.proofs.lemmas.Bool.{cases_eq}
+use Rattle.std.proofs.Common.{◌≡◌, ◌≢◌, ℕ, ◌+◌, ◌-◌, ◌<◌, ◌≤◌, ◌⊎◌, inl, inr, List, get_or, length, max, min, refl, sym, ap, ◌∙◌, subst, arith}
+use Rattle.std.proofs.lemmas.Bool.{cases_eq, cases_lt}
 use Rattle.nr_touch.specs.inside.Bounds.{IsRaised, IsLowered}
 
+-- the number at an index is raised to the one before it of its page, or left as it was
+abbrev pub RaisesTo : List ℕ → List ℕ → List ℕ → List ℕ → ℕ → Type 0
+RaisesTo pages old b new i =
+    ((get_or pages (i - 1) 0 ≡ get_or pages i 0) × (get_or new i 0 ≡ max (get_or old i 0) (get_or b (i - 1) 0)))
+    ⊎ ((get_or pages (i - 1) 0 ≢ get_or pages i 0) × (get_or new i 0 ≡ get_or old i 0))
+
 pub raised_more : (pages old b new : List ℕ) (i : ℕ) → 0 < i → IsRaised pages old b i → length new ≡ length b
-    → ((k : ℕ) → k ≢ i → get_or new k 0 ≡ get_or b k 0)
-    → get_or old i 0 ≤ get_or new i 0
-    → (get_or pages (i - 1) 0 ≡ get_or pages i 0 → get_or b (i - 1) 0 ≤ get_or new i 0)
-    → (get_or new i 0 ≡ get_or old i 0) ⊎ ((get_or pages (i - 1) 0 ≡ get_or pages i 0) × (get_or new i 0 ≡ get_or b (i - 1) 0))
-    → IsRaised pages old new (i + 1)
-raised_more pages old b new i some h many same least rises attains = record {
+    → ((k : ℕ) → k ≢ i → get_or new k 0 ≡ get_or b k 0) → RaisesTo pages old b new i → IsRaised pages old new (i + 1)
+raised_more pages old b new i some h many same how = record {
   one_each = many ∙ h.one_each;
   at_least = λ k l. elim (cases_eq k i) [
-    | inl here ↦ subst (λ n. get_or old n 0 ≤ get_or new n 0) (sym here) least
+    | inl here ↦ subst (λ n. get_or old n 0 ≤ get_or new n 0) (sym here) (elim how [ inl (own, is) ↦ omega (arith, is) | inr (apart, is) ↦ omega (arith, is) ])
     | inr other ↦ let before = h.at_least k (omega arith) in let is = same k other in omega (arith, before, is)
   ];
   rising = λ k l page. elim (cases_eq (k + 1) i) [
@@ -20,9 +22,11 @@ raised_more pages old b new i some h many same least rises attains = record {
         let prior : i - 1 ≡ k = omega arith in
         let first = same k (omega arith) in
         let then : get_or new (k + 1) 0 ≡ get_or new i 0 = ap (λ n. get_or new n 0) here in
-        let up = rises (ap (λ n. get_or pages n 0) prior ∙ page ∙ ap (λ n. get_or pages n 0) here) in
         let was : get_or b (i - 1) 0 ≡ get_or b k 0 = ap (λ n. get_or b n 0) prior in
-        omega (arith, first, then, up, was)
+        elim how [
+          | inl (own, is) ↦ omega (arith, first, then, was, is)
+          | inr (apart, is) ↦ absurd (apart (ap (λ n. get_or pages n 0) prior ∙ page ∙ ap (λ n. get_or pages n 0) here))
+        ]
     | inr other ↦
         let before = h.rising k (omega arith) page in
         let first = same k (omega arith) in
@@ -30,34 +34,31 @@ raised_more pages old b new i some h many same least rises attains = record {
         omega (arith, before, first, then)
   ];
   attained = λ k l. elim (cases_eq k i) [
-    | inl here ↦ subst (λ n. (get_or new n 0 ≡ get_or old n 0)
-        ⊎ ((0 < n) × (get_or pages (n - 1) 0 ≡ get_or pages n 0) × (get_or new n 0 ≡ get_or new (n - 1) 0)))
-        (sym here) (at_end attains)
-    | inr other ↦ before k (omega arith) (same k other) (h.attained k (omega arith))
+    | inl here ↦ subst (λ n. (j : ℕ) × (j ≤ n) × (get_or pages j 0 ≡ get_or pages n 0) × (get_or new n 0 ≡ get_or old j 0)) (sym here) at_end
+    | inr other ↦ let (j, low, own, is) = h.attained k (omega arith) in (j, low, own, same k other ∙ is)
   ];
 } where
-  at_end : (get_or new i 0 ≡ get_or old i 0) ⊎ ((get_or pages (i - 1) 0 ≡ get_or pages i 0) × (get_or new i 0 ≡ get_or b (i - 1) 0))
-      → (get_or new i 0 ≡ get_or old i 0) ⊎ ((0 < i) × (get_or pages (i - 1) 0 ≡ get_or pages i 0) × (get_or new i 0 ≡ get_or new (i - 1) 0))
-  at_end (inl e) = inl e
-  at_end (inr e) = inr (some, e.0, e.1 ∙ sym (same (i - 1) (omega (arith, some))))
+  at_end : (j : ℕ) × (j ≤ i) × (get_or pages j 0 ≡ get_or pages i 0) × (get_or new i 0 ≡ get_or old j 0)
+  at_end = elim how [
+    | inl (own, is) ↦ elim (cases_lt (get_or old i 0) (get_or b (i - 1) 0)) [
+      | inl less ↦ let (j, low, of, at) = h.attained (i - 1) (omega (arith, some)) in (j, omega (arith, low), of ∙ own, omega (arith, is, less, at))
+      | inr more ↦ (i, omega arith, refl, omega (arith, is, more))
+    ]
+    | inr (apart, is) ↦ (i, omega arith, refl, is)
+  ]
 
-  before : (k : ℕ) → k < i → get_or new k 0 ≡ get_or b k 0
-      → (get_or b k 0 ≡ get_or old k 0) ⊎ ((0 < k) × (get_or pages (k - 1) 0 ≡ get_or pages k 0) × (get_or b k 0 ≡ get_or b (k - 1) 0))
-      → (get_or new k 0 ≡ get_or old k 0) ⊎ ((0 < k) × (get_or pages (k - 1) 0 ≡ get_or pages k 0) × (get_or new k 0 ≡ get_or new (k - 1) 0))
-  before k l is (inl e) = inl (is ∙ e)
-  before k l is (inr e) = inr (e.0, e.1, is ∙ e.2 ∙ sym (same (k - 1) (omega (arith, l))))
+-- the number at an index is lowered to the next one of its page, or left as it was
+abbrev pub LowersTo : List ℕ → List ℕ → List ℕ → List ℕ → ℕ → Type 0
+LowersTo pages old b new i =
+    ((get_or pages i 0 ≡ get_or pages (i + 1) 0) × (get_or new i 0 ≡ min (get_or old i 0) (get_or b (i + 1) 0)))
+    ⊎ ((get_or pages i 0 ≢ get_or pages (i + 1) 0) × (get_or new i 0 ≡ get_or old i 0))
 
--- the number at the index is lowered, those from the next on are already
-pub lowered_more : (pages old b new : List ℕ) (i : ℕ) → IsLowered pages old b (i + 1) → length new ≡ length b
-    → ((k : ℕ) → k ≢ i → get_or new k 0 ≡ get_or b k 0)
-    → get_or new i 0 ≤ get_or old i 0
-    → (get_or pages i 0 ≡ get_or pages (i + 1) 0 → get_or new i 0 ≤ get_or b (i + 1) 0)
-    → (get_or new i 0 ≡ get_or old i 0) ⊎ ((i + 1 < length old) × (get_or pages i 0 ≡ get_or pages (i + 1) 0) × (get_or new i 0 ≡ get_or b (i + 1) 0))
-    → IsLowered pages old new i
-lowered_more pages old b new i h many same most rises attains = record {
+pub lowered_more : (pages old b new : List ℕ) (i : ℕ) → i + 1 < length old → IsLowered pages old b (i + 1) → length new ≡ length b
+    → ((k : ℕ) → k ≢ i → get_or new k 0 ≡ get_or b k 0) → LowersTo pages old b new i → IsLowered pages old new i
+lowered_more pages old b new i some h many same how = record {
   one_each = many ∙ h.one_each;
   at_most = λ k low l. elim (cases_eq k i) [
-    | inl here ↦ subst (λ n. get_or new n 0 ≤ get_or old n 0) (sym here) most
+    | inl here ↦ subst (λ n. get_or new n 0 ≤ get_or old n 0) (sym here) (elim how [ inl (own, is) ↦ omega (arith, is) | inr (apart, is) ↦ omega (arith, is) ])
     | inr other ↦ let before = h.at_most k (omega arith) l in let is = same k other in omega (arith, before, is)
   ];
   rising = λ k low l page. elim (cases_eq k i) [
@@ -65,8 +66,10 @@ lowered_more pages old b new i h many same most rises attains = record {
         let first : get_or new k 0 ≡ get_or new i 0 = ap (λ n. get_or new n 0) here in
         let then = same (k + 1) (omega arith) in
         let next : get_or b (k + 1) 0 ≡ get_or b (i + 1) 0 = ap (λ n. get_or b (n + 1) 0) here in
-        let up = rises (subst (λ n. get_or pages n 0 ≡ get_or pages (n + 1) 0) here page) in
-        omega (arith, first, then, next, up)
+        elim how [
+          | inl (own, is) ↦ omega (arith, first, then, next, is)
+          | inr (apart, is) ↦ absurd (apart (subst (λ n. get_or pages n 0 ≡ get_or pages (n + 1) 0) here page))
+        ]
     | inr other ↦
         let before = h.rising k (omega arith) l page in
         let first = same k other in
@@ -74,18 +77,17 @@ lowered_more pages old b new i h many same most rises attains = record {
         omega (arith, before, first, then)
   ];
   attained = λ k low l. elim (cases_eq k i) [
-    | inl here ↦ subst (λ n. (get_or new n 0 ≡ get_or old n 0)
-        ⊎ ((n + 1 < length old) × (get_or pages n 0 ≡ get_or pages (n + 1) 0) × (get_or new n 0 ≡ get_or new (n + 1) 0))) (sym here) (at_begin attains)
-    | inr other ↦ later k (omega arith) (same k other) (h.attained k (omega arith) l)
+    | inl here ↦ subst (λ n. (j : ℕ) × (n ≤ j) × (j < length old) × (get_or pages j 0 ≡ get_or pages n 0) × (get_or new n 0 ≡ get_or old j 0)) (sym here) at_begin
+    | inr other ↦ let (j, from, within, own, is) = h.attained k (omega arith) l in (j, from, within, own, same k other ∙ is)
   ];
 } where
-  at_begin : (get_or new i 0 ≡ get_or old i 0) ⊎ ((i + 1 < length old) × (get_or pages i 0 ≡ get_or pages (i + 1) 0) × (get_or new i 0 ≡ get_or b (i + 1) 0))
-      → (get_or new i 0 ≡ get_or old i 0) ⊎ ((i + 1 < length old) × (get_or pages i 0 ≡ get_or pages (i + 1) 0) × (get_or new i 0 ≡ get_or new (i + 1) 0))
-  at_begin (inl e) = inl e
-  at_begin (inr e) = inr (e.0, e.1, e.2 ∙ sym (same (i + 1) (omega arith)))
-
-  later : (k : ℕ) → i < k → get_or new k 0 ≡ get_or b k 0
-      → (get_or b k 0 ≡ get_or old k 0) ⊎ ((k + 1 < length old) × (get_or pages k 0 ≡ get_or pages (k + 1) 0) × (get_or b k 0 ≡ get_or b (k + 1) 0))
-      → (get_or new k 0 ≡ get_or old k 0) ⊎ ((k + 1 < length old) × (get_or pages k 0 ≡ get_or pages (k + 1) 0) × (get_or new k 0 ≡ get_or new (k + 1) 0))
-  later k l is (inl e) = inl (is ∙ e)
-  later k l is (inr e) = inr (e.0, e.1, is ∙ e.2 ∙ sym (same (k + 1) (omega (arith, l))))
+  at_begin : (j : ℕ) × (i ≤ j) × (j < length old) × (get_or pages j 0 ≡ get_or pages i 0) × (get_or new i 0 ≡ get_or old j 0)
+  at_begin = elim how [
+    | inl (own, is) ↦ elim (cases_lt (get_or b (i + 1) 0) (get_or old i 0)) [
+      | inl less ↦
+          let (j, from, within, of, at) = h.attained (i + 1) (omega arith) some in
+          (j, omega (arith, from), within, of ∙ sym own, omega (arith, is, less, at))
+      | inr more ↦ (i, omega arith, omega (arith, some), refl, omega (arith, is, more))
+    ]
+    | inr (apart, is) ↦ (i, omega arith, omega (arith, some), refl, is)
+  ]

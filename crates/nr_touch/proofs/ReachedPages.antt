@@ -1,5 +1,5 @@
 -- A touch that finds memory finds it in a page that is seen, which is alive; and a touch of the same frame would be right too.
-use Rattle.std.proofs.Common.{◌≡◌, ℕ, zero, suc, ◌+◌, ◌*◌, ◌-◌, ◌/◌, ◌%◌, ◌<◌, ◌≤◌, ◌^◌, ◌&&◌, ◌⊎◌, inl, inr, Bool, true, false, cond, not, nat_lt, List, length, Option, Some, None}
+use Rattle.std.proofs.Common.{◌≡◌, ℕ, ◌+◌, ◌*◌, ◌-◌, ◌/◌, ◌%◌, ◌<◌, ◌≤◌, ◌^◌, ◌&&◌, ◌⊎◌, inl, inr, Bool, true, false, cond, not, nat_lt, List, length, Option, Some, None}
 use Rattle.std.proofs.Common.{Contains, IsTrue, refl, sym, ap, ◌∙◌, subst, arith}
 use Rattle.std.proofs.Math.Seq.{take-length}
 use Rattle.std.proofs.lemmas.Bool.{cases_lt}
@@ -24,11 +24,11 @@ use Rattle.nr_joined.specs.Run.{Run}
 use Rattle.nr_touch.specs.Releases.{HasPhys, IsReachable}
 use Rattle.nr_touch.specs.Tails.{GoesOn}
 use Rattle.nr_touch.specs.Touches.{page_after, ChangesLook, EndsLook, IsAllowedPrefix, IsAnsweredBefore, IsMadeAfter, IsRightTouch, IsRightBehind, TakesAway}
-use Rattle.nr_touch.specs.inside.Changes.{ended_at, number_of, page_before, taken_at, AreChanges}
+use Rattle.nr_touch.specs.inside.Changes.{number_of, page_before, taken_at, AreChanges}
 use Rattle.nr_touch.specs.inside.Columns.{Covers, IsNumbered, IsOf}
 use Rattle.nr_touch.specs.inside.Alike.{AreAlike}
 use Rattle.nr_touch.specs.inside.Earlier.{AreOfRun, EndsNowhere, IsLeftAt}
-use Rattle.nr_touch.specs.inside.Reached.{probe_at, seen_before, seen_left, seen_now, AreSeen, IsAlive, FindsPage, IsMetAt, IsRoomy, IsSamePlace, LeadsBelow, LeadsSo, LeadsThere}
+use Rattle.nr_touch.specs.inside.Reached.{probe_at, seen_before, seen_left, seen_now, AreSeen, IsAlive, FindsAt, IsMetAt, IsRoomy, IsSamePlace, LeadsBelow, LeadsSo, LeadsThere}
 use Rattle.nr_touch.specs.declared.changes.change.PlacedChange.{PlacedChange}
 use Rattle.nr_touch.specs.declared.releases.release.Release.{Release}
 use Rattle.nr_touch.specs.declared.releases.seen.Seen.{Seen}
@@ -36,47 +36,8 @@ use Rattle.nr_touch.specs.declared.touches.touch.Touch.{Touch}
 use Rattle.nr_touch.proofs.Blocks.{frame_covered, in_frame, of_frames}
 use Rattle.nr_touch.proofs.cuts.Ended.{change_within, ended_before, ends_changes}
 use Rattle.nr_touch.proofs.cuts.Tails.{own_right, parts_behind}
-use Rattle.nr_touch.proofs.QuietPages.{look_or_not, same_look}
+use Rattle.nr_touch.proofs.NextChanges.{first_within, same_within, FirstWithin, NoneWithin}
 use Rattle.nr_touch.proofs.Sizes.{covered_numbered, own_number}
-
--- ---- the first change from a number of entries on
-
--- no update from one number of entries to another changes how the address looks
-abbrev pub NoneWithin : Space → Recording → ℕ → ℕ → ℕ → Type 0
-NoneWithin start trace a m n = (place : ℕ) → m ≤ place → place < n → ChangesLook start trace a place → ⊥
-
-abbrev pub FirstWithin : Space → Recording → ℕ → ℕ → ℕ → Type 0
-FirstWithin start trace a m n = (place : ℕ) × (m ≤ place) × (place < n) × ChangesLook start trace a place × NoneWithin start trace a m place
-
-pub first_within : (start : Space) (trace : Recording) (a m k : ℕ) → NoneWithin start trace a m (m + k) ⊎ FirstWithin start trace a m (m + k)
-first_within start trace a m zero = inl (λ p low high looks. omega (arith, low, high))
-first_within start trace a m (suc k) =
-    by (first_within start trace a m k) (look_or_not (page_after start trace a (m + k)) (page_after start trace a ((m + k) + 1))) where
-      by : NoneWithin start trace a m (m + k) ⊎ FirstWithin start trace a m (m + k)
-          → (page_after start trace a (m + k) ≡ page_after start trace a ((m + k) + 1)) ⊎ ChangesLook start trace a (m + k)
-          → NoneWithin start trace a m (m + suc k) ⊎ FirstWithin start trace a m (m + suc k)
-      by (inr (p, low, high, looks, none)) d = inr (p, low, omega (arith, high), looks, none)
-      by (inl none) (inr looks) = inr (m + k, omega arith, omega arith, looks, none)
-      by (inl none) (inl same) = inl (λ p low high looks. elim (cases_lt p (m + k)) [
-        | inl less ↦ none p low less looks
-        | inr past ↦
-            let here : p ≡ m + k = omega (arith, past, high) in
-            subst (λ (n : ℕ). ChangesLook start trace a n) here looks same
-      ])
-
-same_for : (start : Space) (trace : Recording) (a m k : ℕ) → NoneWithin start trace a m (m + k)
-    → page_after start trace a m ≡ page_after start trace a (m + k)
-same_for start trace a m zero none = ap (page_after start trace a) (let it : m ≡ m + zero = omega arith in it)
-same_for start trace a m (suc k) none =
-    same_for start trace a m k (λ p low high looks. none p low (omega (arith, high)) looks)
-    ∙ same_look (page_after start trace a (m + k)) (page_after start trace a ((m + k) + 1)) (λ looks. none (m + k) (omega arith) (omega arith) looks)
-    ∙ ap (page_after start trace a) (let it : (m + k) + 1 ≡ m + suc k = omega arith in it)
-
-pub same_within : (start : Space) (trace : Recording) (a m n : ℕ) → m ≤ n → NoneWithin start trace a m n
-    → page_after start trace a m ≡ page_after start trace a n
-same_within start trace a m n l none =
-    let it : m + (n - m) ≡ n = omega (arith, l) in
-    same_for start trace a m (n - m) (subst (λ (e : ℕ). NoneWithin start trace a m e) (sym it) none) ∙ ap (page_after start trace a) it
 
 -- ---- which pages answer so
 
@@ -128,13 +89,14 @@ own_covers page a aligned covered c is of =
     let at = (covers_means page a).0 covered in
     covered_numbered c a page.size is (of ∙ own_number page.size page.base a aligned at.0 at.1)
 
--- a page that was seen and was alive, which has the address
-record FoundPage (own : List PlacedChange) (seen : List Seen) (event a : ℕ) (page : Page) : Type 0 where
+-- a page that was seen and was alive, which has the address; from a number of entries on
+record FoundPage (own : List PlacedChange) (seen : List Seen) (event a : ℕ) (page : Page) (n : ℕ) : Type 0 where
   pub s : Seen
   pub has : Contains seen s
   pub is : s.page ≡ page
   pub covered : IsTrue (covers page a)
   pub alive : IsAlive own s event
+  pub from : n ≤ s.place
 
 -- a page that is seen and alive leads there at or below an address, and shares memory with the release
 pub record ReachedPage (start : Space) (segment : Recording) (own earlier : List PlacedChange) (seen : List Seen) (release : Release) (address : ℕ)
@@ -146,7 +108,7 @@ pub record ReachedPage (start : Space) (segment : Recording) (own earlier : List
   pub shared : HasPhys release phys
   pub low : s.page.phys ≤ phys
   pub high : phys < s.page.phys + bytes_of s.page.size
-  pub leads : LeadsBelow start segment earlier release address s.page
+  pub leads : LeadsBelow start segment earlier release address s.page s.place
 
 module _ (start : Space) (segment : Recording) (own : List PlacedChange) (are : AreChanges start segment own)
     (space : Space) (depth : Depth) (is_space : IsSpace depth space) (whole : space ≡ space_from start segment segment.log) where
@@ -173,19 +135,13 @@ module _ (start : Space) (segment : Recording) (own : List PlacedChange) (are : 
   -- an address with the same changes, which the page has, looks so too
   pub looks_alike : (a b n : ℕ) (page : Page) → AreAlike own a b → IsTrue (covers page b) → n ≤ length segment.log
       → page_after start segment a n ≡ Some page → page_after start segment b n ≡ Some page
-  looks_alike a b n page alike covers_b low at = by (first_within start segment a n (length segment.log - n)) where
-    it : n + (length segment.log - n) ≡ length segment.log
-    it = omega (arith, low)
-
-    by : NoneWithin start segment a n (n + (length segment.log - n)) ⊎ FirstWithin start segment a n (n + (length segment.log - n))
-        → page_after start segment b n ≡ Some page
+  looks_alike a b n page alike covers_b low at = by (first_within start segment a n (length segment.log) low) where
+    by : NoneWithin start segment a n (length segment.log) ⊎ FirstWithin start segment a n (length segment.log) → page_after start segment b n ≡ Some page
     by (inl none) =
-        let all = subst (λ (e : ℕ). NoneWithin start segment a n e) it none in
-        let here : page_at space a ≡ Some page = sym (at_end a) ∙ sym (same_within start segment a n (length segment.log) low all) ∙ at in
-        same_within start segment b n (length segment.log) low (none_alike a b n (length segment.log) alike all)
+        let here : page_at space a ≡ Some page = sym (at_end a) ∙ sym (same_within start segment a n (length segment.log) low none) ∙ at in
+        same_within start segment b n (length segment.log) low (none_alike a b n (length segment.log) alike none)
         ∙ at_end b ∙ (page_at_means is_space b page).1 (((page_at_means is_space a page).0 here).0, covers_b)
-    by (inr (p, from, to, looks, none)) =
-        let high : p < length segment.log = omega (arith, to, it) in
+    by (inr (p, from, high, looks, none)) =
         let (c, has, place, covered) = are.all p a high looks in
         let known = (are.each c has).0 in
         same_within start segment b n p from (none_alike a b n p alike none)
@@ -198,13 +154,12 @@ module _ (start : Space) (segment : Recording) (own : List PlacedChange) (are : 
 
   module _ (earlier : List PlacedChange) (event : ℕ) (page : Page) where
     -- an address of the page with the same changes may be found so too
-    pub alike_finds : (a b : ℕ) → AreAlike own a b → AreAlike earlier a b → IsTrue (covers page b) → FindsPage start segment earlier event page a
-        → FindsPage start segment earlier event page b
-    alike_finds a b alike left_alike covers_b (inl (n, allowed, at)) =
+    pub alike_finds : (a b n : ℕ) → AreAlike own a b → AreAlike earlier a b → IsTrue (covers page b) → FindsAt start segment earlier event page a n
+        → FindsAt start segment earlier event page b n
+    alike_finds a b n alike left_alike covers_b (inl (allowed, at)) =
         let looks = looks_alike a b n page alike covers_b allowed.within at in
         let back = alike_back own a b alike in
         inl (
-          n,
           record {
             within = allowed.within;
             flushed = λ place ends before.
@@ -214,7 +169,7 @@ module _ (start : Space) (segment : Recording) (own : List PlacedChange) (are : 
           },
           looks,
         )
-    alike_finds a b alike left_alike covers_b (inr (none, it)) = inr (
+    alike_finds a b n alike left_alike covers_b (inr (none, it)) = inr (
       (λ place taken early. none place (takes_alike b a place (alike_back own a b alike) taken) early),
       record {
         change = it.change;
@@ -226,14 +181,15 @@ module _ (start : Space) (segment : Recording) (own : List PlacedChange) (are : 
     )
 
     -- a touch that finds it there is right
-    pub finds_right : (before : Option Run) → GoesOn before segment start → AreOfRun before earlier → (b phys : ℕ) → phys ≡ page.phys + (b - page.base)
-        → FindsPage start segment earlier event page b → IsRightBehind before start segment (probe_at event b phys)
-    finds_right before goes_on of_run b phys is (inl (n, allowed, at)) = own_right start segment earlier (probe_at event b phys) before goes_on of_run (inl (
-      n,
-      record { within = allowed.within; flushed = allowed.flushed; not_foreseen = allowed.not_foreseen },
-      ap Allowed is ∙ probed b page ∙ ap (allow_in_page b Supervisor Read) (sym at),
-    ))
-    finds_right before goes_on of_run b phys is (inr (none, it)) =
+    pub finds_right : (before : Option Run) → GoesOn before segment start → AreOfRun before earlier → (b phys n : ℕ) → phys ≡ page.phys + (b - page.base)
+        → FindsAt start segment earlier event page b n → IsRightBehind before start segment (probe_at event b phys)
+    finds_right before goes_on of_run b phys n is (inl (allowed, at)) =
+        own_right start segment earlier (probe_at event b phys) before goes_on of_run (inl (
+          n,
+          record { within = allowed.within; flushed = allowed.flushed; not_foreseen = allowed.not_foreseen },
+          ap Allowed is ∙ probed b page ∙ ap (allow_in_page b Supervisor Read) (sym at),
+        ))
+    finds_right before goes_on of_run b phys n is (inr (none, it)) =
         (parts_behind start segment earlier (probe_at event b phys) before goes_on of_run).1 (inr (Some page, none, it, ap Allowed is ∙ probed b page))
 
 module _ (start : Space) (segment : Recording) (own earlier : List PlacedChange) (are : AreChanges start segment own)
@@ -267,7 +223,7 @@ module _ (start : Space) (segment : Recording) (own earlier : List PlacedChange)
       | inr fine ↦ fine
     ]
 
-    before_change : FirstWithin start segment touch.address n (length segment.log) → FoundPage own seen event touch.address page
+    before_change : FirstWithin start segment touch.address n (length segment.log) → FoundPage own seen event touch.address page n
     before_change (p, low, high, looks, none) =
         let (c, has, place, covered) = are.all p touch.address high looks in
         let known = (are.each c has).0 in
@@ -287,9 +243,10 @@ module _ (start : Space) (segment : Recording) (own earlier : List PlacedChange)
             from = λ d has_d of less. made_before p none d has_d (mine d has_d of) (omega (arith, less, place));
             until = λ d has_d of past. taken_from p low d has_d (mine d has_d of) (omega (arith, past, place));
           };
+          from = omega (arith, low, place);
         }
 
-    after_all : NoneWithin start segment touch.address n (length segment.log) → FoundPage own seen event touch.address page
+    after_all : NoneWithin start segment touch.address n (length segment.log) → FoundPage own seen event touch.address page n
     after_all none =
         let low = allowed.within in
         let here : page_at space touch.address ≡ Some page =
@@ -307,23 +264,20 @@ module _ (start : Space) (segment : Recording) (own earlier : List PlacedChange)
                 made_before (length segment.log) none d has_d (own_covers page touch.address aligned covered d (numbered d has_d) of) (are.each d has_d).1;
             until = λ d has_d of past. absurd (let l = (are.each d has_d).1 in omega (arith, past, l, many));
           };
+          from = omega (arith, low, many);
         }
 
-    found : FoundPage own seen event touch.address page
-    found = by (first_within start segment touch.address n (length segment.log - n)) where
-      it : n + (length segment.log - n) ≡ length segment.log
-      it = let low = allowed.within in omega (arith, low)
-
-      by : NoneWithin start segment touch.address n (n + (length segment.log - n)) ⊎ FirstWithin start segment touch.address n (n + (length segment.log - n))
-          → FoundPage own seen event touch.address page
-      by (inl none) = after_all (subst (λ (e : ℕ). NoneWithin start segment touch.address n e) it none)
-      by (inr first) = before_change (subst (λ (e : ℕ). FirstWithin start segment touch.address n e) it first)
+    found : FoundPage own seen event touch.address page n
+    found = elim (first_within start segment touch.address n (length segment.log) allowed.within) [
+      | inl none ↦ after_all none
+      | inr first ↦ before_change first
+    ]
 
   -- ---- behind the segments before
 
   module _ (touch : Touch) (made : touch.made ≡ event) (page : Page) (none : EndsNowhere start segment touch.address (Some page) touch.made)
       (it : IsLeftAt earlier touch.address (Some page)) where
-    left_found : FoundPage own seen event touch.address page
+    left_found : FoundPage own seen event touch.address page 0
     left_found =
         let there = was_there it.change page it.looks in
         let still : nat_lt (taken_at it.change) 4294967295 ≡ false = elim (cases_lt (taken_at it.change) 4294967295) [
@@ -346,6 +300,7 @@ module _ (start : Space) (segment : Recording) (own earlier : List PlacedChange)
               | inr fine ↦ fine
             ];
           };
+          from = omega arith;
         }
 
   -- ---- a release whose memory can be reached
@@ -353,9 +308,9 @@ module _ (start : Space) (segment : Recording) (own earlier : List PlacedChange)
   module _ (before : Option Run) (goes_on : GoesOn before segment start) (of_run : AreOfRun before earlier) (release : Release)
       (aligned : release.phys % bytes_of release.size ≡ 0) (now : release.made ≡ event) where
     -- the frame of the address
-    leads_so : (a phys : ℕ) (page : Page) (there : FoundPage own seen event a page) → phys ≡ page.phys + (a - page.base) → HasPhys release phys
-        → FindsPage start segment earlier event page a → ReachedPage start segment own earlier seen release a
-    leads_so a phys page there is shared finds =
+    leads_so : (a phys n : ℕ) (page : Page) (there : FoundPage own seen event a page n) → phys ≡ page.phys + (a - page.base) → HasPhys release phys
+        → FindsAt start segment earlier event page a n → ReachedPage start segment own earlier seen release a
+    leads_so a phys n page there is shared finds =
         let roomy = subst (λ (q : Page). (q.base % bytes_of q.size ≡ 0) × (q.phys % bytes_of q.size ≡ 0)) there.is
         (let r = all.roomy there.s there.has in (r.base, r.frame)) in
         let base = of_frames page.size page.base roomy.0 in
@@ -377,19 +332,23 @@ module _ (start : Space) (segment : Recording) (own earlier : List PlacedChange)
           shared = shared;
           low = subst (λ (q : Page). q.phys ≤ phys) (sym there.is) (omega (arith, is));
           high = subst (λ (q : Page). phys < q.phys + bytes_of q.size) (sym there.is) (omega (arith, is, within.0, within.1));
-          leads = subst (LeadsBelow start segment earlier release a) (sym there.is) (
+          leads = subst (λ (q : Page). LeadsBelow start segment earlier release a q there.s.place) (sym there.is) (
             record {
               frame = frame;
               within = omega (arith, offset, within.0, within.1);
               has = (up, omega (arith, shared.1, is, offset));
               own = page;
               same = record { base = refl; size = refl; phys = refl };
-              finds = subst (λ (e : ℕ). FindsPage start segment earlier e page (page.base + frame * 4096)) (sym now)
-                  (alike_finds start segment own are space depth is_space whole earlier event page a (page.base + frame * 4096)
-                  (frame_alike own numbered a (page.base + frame * 4096) so.same)
-                  (frame_alike earlier left_numbered a (page.base + frame * 4096) so.same) covers_b finds);
+              finds = (
+                n,
+                subst (λ (e : ℕ). FindsAt start segment earlier e page (page.base + frame * 4096) n) (sym now)
+                    (alike_finds start segment own are space depth is_space whole earlier event page a (page.base + frame * 4096) n
+                    (frame_alike own numbered a (page.base + frame * 4096) so.same)
+                    (frame_alike earlier left_numbered a (page.base + frame * 4096) so.same) covers_b finds),
+              );
             },
             omega (arith, offset, within.0),
+            there.from,
           );
         }
 
@@ -405,8 +364,7 @@ module _ (start : Space) (segment : Recording) (own earlier : List PlacedChange)
           → ((own_page : Page) × (page_after start segment can.touch.address n ≡ Some own_page)
           × (can.phys ≡ own_page.phys + (can.touch.address - own_page.base))) → ReachedPage start segment own earlier seen release can.touch.address
       in_segment n allowed (page, at, is) =
-          leads_so can.touch.address can.phys page (found can.touch made answered n allowed page at) is can.within (inl (
-            n,
+          leads_so can.touch.address can.phys n page (found can.touch made answered n allowed page at) is can.within (inl (
             record {
               within = allowed.within;
               flushed = λ place ends early. allowed.flushed place ends (subst (IsAnsweredBefore segment place) (sym made) early);
@@ -421,7 +379,7 @@ module _ (start : Space) (segment : Recording) (own earlier : List PlacedChange)
       left_over page none it (found_page, same, is) =
           let nowhere = subst (λ (o : Option Page). EndsNowhere start segment can.touch.address o can.touch.made) same none in
           let at = subst (IsLeftAt earlier can.touch.address) same it in
-          leads_so can.touch.address can.phys found_page (left_found can.touch made found_page nowhere at) is can.within
+          leads_so can.touch.address can.phys 0 found_page (left_found can.touch made found_page nowhere at) is can.within
           (inr (subst (λ (e : ℕ). EndsNowhere start segment can.touch.address (Some found_page) e) made nowhere, at))
 
       by : IsRightTouch start segment can.touch ⊎ ((page : Option Page) × EndsNowhere start segment can.touch.address page can.touch.made
@@ -463,10 +421,10 @@ leads_alike before start segment own earlier are goes_on of_run space depth is_s
     let covered : IsTrue (covers page a) = (covers_means page a).1 (omega arith, omega (arith, within, low)) in
     let has = leads.has in
     let own_covered : IsTrue (covers leads.own a) = same_covers page leads.own a same covered in
-    let found = alike_finds start segment own are space depth is_space whole earlier release.made leads.own b a (alike_back own a b alike)
-    (alike_back earlier a b left_alike) own_covered leads.finds in
+    let found = alike_finds start segment own are space depth is_space whole earlier release.made leads.own b a leads.finds.0
+    (alike_back own a b alike) (alike_back earlier a b left_alike) own_covered leads.finds.1 in
     record {
       has = (up, omega (arith, has.1, low));
       right = finds_right start segment own are space depth is_space whole earlier release.made leads.own before goes_on of_run a (page.phys + frame * 4096)
-          (let base = same.base in let phys = same.phys in omega (arith, base, phys)) found;
+          leads.finds.0 (let base = same.base in let phys = same.phys in omega (arith, base, phys)) found;
     }

@@ -8,23 +8,19 @@ use Rattle.vs_types.specs.Operation.{IsAction}
 use Rattle.vs_types.specs.Space.{Space, IsSpace}
 use Rattle.vs_types.specs.Step.{step, after_all}
 use Rattle.vs_types.specs.declared.op.Action.{Action}
-use Rattle.vs_types.specs.declared.request.Query.TheVariants.{Update, Resolve, Access}
+use Rattle.vs_types.specs.declared.request.Query.TheVariants.{Update}
 use Rattle.vs_types.proofs.Steps.{step_space}
 use Rattle.nr_trace.specs.Recording.{Recording, IsEvent, IsRecording}
 use Rattle.nr_trace.specs.Calls.{Invocation, made_by, operation_in, operation_of}
 use Rattle.nr_trace.specs.Orders.{operations, space_from}
 use Rattle.nr_trace.specs.declared.event.Event.{Event}
-use Rattle.nr_trace.specs.declared.event.Event.TheVariants.{Call, Release, Reply, Touch}
+use Rattle.nr_trace.specs.declared.event.Event.TheVariants.{Call}
 use Rattle.nr_trace.specs.declared.version.Version.{Version}
 
 asked_fits : (version : Version) (layout : Layout) (event : Event) (action : Action) → IsEvent version layout event
     → option_and_then (λ (made : Invocation). operation_in made.request) (made_by event) ≡ Some action → IsAction layout.depth action
 asked_fits version layout (Call replica thread (Update own)) action is e = subst (IsAction layout.depth) (same_Some own action e) is.2
-asked_fits version layout (Call replica thread (Resolve address)) action is e = absurd (cc)
-asked_fits version layout (Call replica thread (Access address mode access)) action is e = absurd (cc)
-asked_fits version layout (Touch replica thread address mode access) action is e = absurd (cc)
-asked_fits version layout (Release replica thread size phys) action is e = absurd (cc)
-asked_fits version layout (Reply call at answer) action is e = absurd (cc)
+asked_fits version layout _ action is e = absurd (cc)
 
 module _ (trace : Recording) (in_range : IsRecording trace) where
   pub update_fits : (call : ℕ) (action : Action) → operation_of trace call ≡ Some action → IsAction trace.layout.depth action

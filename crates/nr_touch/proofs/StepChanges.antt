@@ -1,8 +1,8 @@
 -- What a step of a space changes: one page, or no address looks otherwise.
 use Rattle.std.proofs.Common.{◌≡◌, ◌≢◌, ◌↔◌, ℕ, ◌+◌, ◌-◌, cond, Bool, true, false, ◌⊎◌, inl, inr, Option, Some, None, IsSomeAnd, IsTrue, refl, sym, ap, ◌∙◌, subst, arith}
-use Rattle.std.proofs.lemmas.Bool.{false≢true}
 use Rattle.std.proofs.lemmas.Option.{same_Some}
 use Rattle.std.specs.FinMap as finite
+use Rattle.std.proofs.lemmas.Bool.Decides.{Decides-like}
 use Rattle.vs_types.specs.declared.depth.Depth.{Depth}
 use Rattle.vs_types.specs.declared.page.Page.{Page}
 use Rattle.vs_types.specs.declared.page.Rights.{Rights}
@@ -16,9 +16,10 @@ use Rattle.vs_types.proofs.Pages.{covers_base}
 use Rattle.vs_types.proofs.Spaces.{page_at_means, page_at_after_insert, page_at_after_remove}
 use Rattle.vs_types.proofs.Steps.{map_cases, unmap_cases, protect_cases, alone, protect_space, step_space}
 use Rattle.nr_touch.specs.Touches.{Includes, IsTaken, StillHas}
-use Rattle.nr_touch.specs.inside.Changes.{IsPageChange, IsChange}
+use Rattle.nr_touch.specs.inside.Changes.{page_before, IsChange, IsPageChange}
 use Rattle.nr_touch.specs.declared.changes.change.Change.{Change}
-use Rattle.nr_touch.proofs.QuietPages.{page_or_not}
+use Rattle.nr_touch.proofs.SamePages.{page_or_not}
+use Rattle.nr_touch.proofs.Tests.{no, yes}
 use Rattle.nr_touch.proofs.Undone.{insert_elsewhere, remove_elsewhere}
 
 abbrev fresh : Page → Change
@@ -63,29 +64,32 @@ module _ {depth : Depth} (limit : ℕ) {space : Space} (is : IsSpace depth space
     | Some q ↦ λ at. let found = (page_at_means is a q).0 at in absurd (alone is page e q a found.0 found.1 covered)
   ] refl
 
+  -- where the addresses of a page look otherwise afterwards, and no others
+  page_change : (change : Change) (after : Space) (new : Option Page) → IsPage depth change.page
+      → ((a : ℕ) → page_at after a ≡ cond (covers change.page a) new (page_at space a))
+      → ((a : ℕ) → IsTrue (covers change.page a) → page_at space a ≡ page_before change) → page_before change ≢ new
+      → IsTrue change.takes ↔ IsTaken (page_before change) new → finite.remove after change.page.base ≡ finite.remove space change.page.base
+      → IsPageChange depth space after change
+  page_change change after new good at was apart taken elsewhere = record {
+    well_formed = good;
+    was = was;
+    differs = λ a covered same. apart (sym (was a covered) ∙ same ∙ here a covered);
+    takes = λ a covered. subst (λ o. IsTrue change.takes ↔ IsTaken o (page_at after a)) (sym (was a covered))
+        (subst (λ o. IsTrue change.takes ↔ IsTaken (page_before change) o) (sym (here a covered)) taken);
+    others = λ a uncovered. sym (at a ∙ ap (λ b. cond b new (page_at space a)) uncovered);
+    elsewhere = elsewhere;
+  } where
+    here : (a : ℕ) → IsTrue (covers change.page a) → page_at after a ≡ new
+    here a covered = at a ∙ ap (λ b. cond b new (page_at space a)) covered
+
   pub added : (page : Page) → IsPage depth page → least_overlapped space page ≡ None → IsSpace depth (finite.insert space page.base page)
       → IsPageChange depth space (finite.insert space page.base page) (fresh page)
-  added page good e new = record {
-    well_formed = good;
-    was = λ a covered. nothing page e a covered;
-    differs = λ a covered same.
-        let gone = nothing page e a covered in
-        let here : page_at (finite.insert space page.base page) a ≡ Some page =
-        at a ∙ ap (λ b. cond b (Some page) (page_at space a)) covered in
-        cc;
-    takes = λ a covered. (
-      λ t. absurd (false≢true t),
-      λ it. absurd (none_taken (page_at (finite.insert space page.base page) a)
-          (subst (λ (o : Option Page). IsTaken o (page_at (finite.insert space page.base page) a)) (nothing page e a covered) it)),
-    );
-    others = λ a uncovered. sym (at a ∙ ap (λ b. cond b (Some page) (page_at space a)) uncovered);
-    elsewhere = insert_elsewhere space page.base page;
-  } where
-    meets : (q : Page) → Holds space q → q.base ≡ page.base → ⊥
-    meets q holds same = alone is page e q page.base holds (subst (λ z. IsTrue (covers q z)) same (covers_base q)) (covers_base page)
-
-    at : (a : ℕ) → page_at (finite.insert space page.base page) a ≡ cond (covers page a) (Some page) (page_at space a)
-    at a = page_at_after_insert is page new (λ q holds same. absurd (meets q holds same)) a
+  added page good e new =
+      page_change (fresh page) (finite.insert space page.base page) (Some page) good
+      (page_at_after_insert is page new (λ q holds same. absurd (meets q holds same))) (nothing page e) (λ same. cc) (no (none_taken (Some page)))
+      (insert_elsewhere space page.base page) where
+        meets : (q : Page) → Holds space q → q.base ≡ page.base → ⊥
+        meets q holds same = alone is page e q page.base holds (subst (λ z. IsTrue (covers q z)) same (covers_base q)) (covers_base page)
 
   pub map_change : (page : Page) → IsPage depth page → (answer : Answer) (after : Space) (result : Option Change)
       → (answer ≡ Done → result ≡ Some (fresh page)) → (answer ≢ Done → result ≡ None)
@@ -102,26 +106,9 @@ module _ {depth : Depth} (limit : ℕ) {space : Space} (is : IsSpace depth space
   -- ---- an unmap
 
   pub gone : (page : Page) → Holds space page → IsPageChange depth space (finite.remove space page.base) (there page true)
-  gone page holds = record {
-    well_formed = is.well_formed page holds;
-    was = λ a covered. (page_at_means is a page).1 (holds, covered);
-    differs = λ a covered same.
-        let was = (page_at_means is a page).1 (holds, covered) in
-        let here : page_at (finite.remove space page.base) a ≡ None =
-        page_at_after_remove is page holds a ∙ ap (λ b. cond b None (page_at space a)) covered in
-        cc;
-    takes = λ a covered. (
-      λ t.
-          let was = (page_at_means is a page).1 (holds, covered) in
-          let here : page_at (finite.remove space page.base) a ≡ None =
-          page_at_after_remove is page holds a ∙ ap (λ b. cond b None (page_at space a)) covered in
-          subst (λ (o : Option Page). IsTaken o (page_at (finite.remove space page.base) a)) (sym was)
-          (subst (IsTaken (Some page)) (sym here) (gone_taken page)),
-      λ it. refl,
-    );
-    others = λ a uncovered. sym (page_at_after_remove is page holds a ∙ ap (λ b. cond b None (page_at space a)) uncovered);
-    elsewhere = remove_elsewhere space page.base;
-  }
+  gone page holds =
+      page_change (there page true) (finite.remove space page.base) None (is.well_formed page holds) (page_at_after_remove is page holds)
+      (λ a covered. (page_at_means is a page).1 (holds, covered)) (λ same. cc) (yes (gone_taken page)) (remove_elsewhere space page.base)
 
   pub unmap_change : (base : ℕ) (answer : Answer) (after : Space) (result : Option Change)
       → ((page : Page) → page.base ≡ base → answer ≡ Removed page.phys page.size page.rights → result ≡ Some (there page true))
@@ -150,21 +137,10 @@ module _ {depth : Depth} (limit : ℕ) {space : Space} (is : IsSpace depth space
 
     protected : (takes : Bool) → page ≢ other → IsTrue takes ↔ (Includes page.rights rights → ⊥)
         → IsPageChange depth space (finite.insert space page.base other) (there page takes)
-    protected takes apart less = record {
-      well_formed = is.well_formed page holds;
-      was = λ a covered. (page_at_means is a page).1 (holds, covered);
-      differs = λ a covered same.
-          apart (same_Some page other (sym ((page_at_means is a page).1 (holds, covered)) ∙ same
-          ∙ at a ∙ ap (λ b. cond b (Some other) (page_at space a)) covered));
-      takes = λ a covered.
-          let was = (page_at_means is a page).1 (holds, covered) in
-          let here : page_at (finite.insert space page.base other) a ≡ Some other = at a ∙ ap (λ b. cond b (Some other) (page_at space a)) covered in
-          subst (λ (o : Option Page). IsTrue takes ↔ IsTaken o (page_at (finite.insert space page.base other) a)) (sym was)
-          (subst (λ (o : Option Page). IsTrue takes ↔ IsTaken (Some page) o) (sym here)
-          ((λ t. (less_taken page rights).1 (less.0 t)), (λ it. less.1 ((less_taken page rights).0 it))));
-      others = λ a uncovered. sym (at a ∙ ap (λ b. cond b (Some other) (page_at space a)) uncovered);
-      elsewhere = insert_elsewhere space page.base other;
-    }
+    protected takes apart less =
+        page_change (there page takes) (finite.insert space page.base other) (Some other) (is.well_formed page holds) at
+        (λ a covered. (page_at_means is a page).1 (holds, covered)) (λ same. apart (same_Some page other same))
+        (Decides-like takes (less_taken page rights).1 (less_taken page rights).0 less) (insert_elsewhere space page.base other)
 
     kept : page ≡ other → (a : ℕ) → page_at space a ≡ page_at (finite.insert space page.base other) a
     kept same a = elim (covers page a) as (λ b. covers page a ≡ b → page_at space a ≡ page_at (finite.insert space page.base other) a) [

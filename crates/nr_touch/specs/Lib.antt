@@ -3,6 +3,7 @@ pub mod Stale
 pub mod Tails
 pub mod Looks
 pub mod Releases
+pub mod Replies
 pub mod Beside
 pub mod inside
 pub use Rattle.vs_types.specs.Space

@@ -11,6 +11,7 @@ pub mod Lefts
 pub mod Levels
 pub mod Lives
 pub mod Met
+pub mod Overs
 pub mod Reached
 pub mod Sights
 pub mod Stays

@@ -10,6 +10,7 @@ pub mod laws;
 mod releases;
 mod touches;
 
+pub use changes::replay::replies;
 pub use releases::reaching::reached;
 pub use releases::release::Release;
 pub use touches::beside::touches_beside;

@@ -5,6 +5,7 @@ pub(crate) mod changed;
 pub(crate) mod index;
 pub(crate) mod lives;
 pub(crate) mod meeting;
+pub(crate) mod overs;
 pub(crate) mod quiet;
 pub(crate) mod reaching;
 pub(crate) mod release;

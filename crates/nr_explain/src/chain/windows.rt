@@ -5,7 +5,7 @@ ghost use Rattle.vs_types.specs.Space.{IsSpace};
 ghost use Rattle.vs_types.specs.Step.{look};
 ghost use Rattle.nr_audit.specs.Verdict.{space_of};
 ghost use Rattle.nr_touch.specs.Touches.{Includes, IsAnsweredBefore, IsMadeAfter};
-ghost use Rattle.nr_touch.specs.inside.Changes.{AreReplies};
+ghost use Rattle.nr_touch.specs.Replies.{AreReplies};
 ghost use Rattle.nr_explain.specs.ChainFacts.{is_mapped};
 ghost use Rattle.nr_explain.specs.inside.Searches.{HasCallAt};
 ghost use Rattle.nr_explain.specs.inside.Windows.{EndsBetween, IsTakenLook, IsWindowOf, StillLooks};
@@ -28,7 +28,7 @@ pub(crate) struct Window {
 
 /// Whether the update of a place is answered before an event, by the first replies to calls.
 fn is_answered_before(segment: &Trace, replies: &[u32], place: u32, event: u32) -> bool
-    requires replies { AreReplies segment.now replies.now (length segment.now.events) }
+    requires replies { AreReplies segment.now replies.now }
     requires within { place < length segment.now.log }
     requires call { HasCallAt segment.now place }
     ensures { IsTrue result ↔ IsAnsweredBefore segment.now place event }
@@ -166,7 +166,7 @@ pub(crate) fn window_of(
     with_page: bool,
 ) -> Result<Window, Memory>
     requires start { start ≡ space_of segment.now.layout start.space }
-    requires replies { AreReplies segment.now replies.now (length segment.now.events) }
+    requires replies { AreReplies segment.now replies.now }
     ensures { IfOk result
         (IsWindowOf start.space segment.now address made answered with_page) }
 {

@@ -1,16 +1,13 @@
 //! Searches through the events and the log.
 
-ghost use Rattle.std.specs.Prelude.{◌≡◌, ◌<◌, ◌≤◌, ℕ, IfOk, MatchOption, Some, length, replicate, slice_get};
-ghost use Rattle.nr_touch.specs.inside.Changes.{AreReplies};
+ghost use Rattle.std.specs.Prelude.{◌≡◌, ◌<◌, ◌≤◌, ℕ, MatchOption, Some, length, slice_get};
 ghost use Rattle.nr_trace.specs.Orders.{floor};
 ghost use Rattle.nr_explain.specs.Facts.{IsFirstReplyTo};
 ghost use Rattle.nr_explain.specs.inside.Searches.{IsBinding, IsFirstReply, IsLastCall, IsResting, IsUnplacedBelow, RestsAt, RestsNowhere};
 
 use crate::search::events::{entries_known, find_call, find_reply};
 use crate::trace::evidence::{RecordedCall, RecordedReply, ShortPrefix};
-use nr_trace::{Event, Trace};
-use std::alloc::Global;
-use vs_types::Memory;
+use nr_trace::Trace;
 
 /// The last call of a thread before an event.
 pub(crate) fn last_call(trace: &Trace, thread: u16, end: u32) -> Option<RecordedCall>
@@ -46,36 +43,6 @@ pub fn reply_to(trace: &Trace, call: u32) -> Option<RecordedReply>
     ensures { IsFirstReplyTo trace.now call result }
 {
     first_reply(trace, call, trace.events().len() as u32)
-}
-
-/// A table of so many events, of none of which a reply is known.
-fn no_replies(alloc: Global, rows: usize) -> Result<Vec<u32>, Memory>
-    ensures { IfOk result (λ table. table.items ≡ replicate rows 4294967295) }
-{
-    Ok(vec![in alloc; u32::MAX; rows]?)
-}
-
-/// By the index of each call the first event that answers it, or `u32::MAX` where there is none. Allocates four bytes for each event.
-pub(crate) fn replies(alloc: Global, trace: &Trace) -> Result<Vec<u32>, Memory>
-    ensures { IfOk result
-        (λ replies. AreReplies trace.now replies.items (length trace.now.events)) }
-{
-    let events = trace.events();
-    let mut replies = no_replies(alloc, events.len())?;
-    for (index, event) in events.iter().enumerate() {
-        match event.event() {
-            Event::Call { .. } => {}
-            Event::Touch { .. } => {}
-            Event::Release { .. } => {}
-            Event::Reply { call, .. } => {
-                let call = call as usize;
-                if call < replies.len() {
-                    replies[call] = replies[call].min(index as u32);
-                }
-            }
-        }
-    }
-    Ok(replies)
 }
 
 /// The first place of the log, of these, that has a call.

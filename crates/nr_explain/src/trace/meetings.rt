@@ -3,8 +3,8 @@
 ghost use Rattle.std.specs.Prelude.{◌≡◌, ◌<◌, ◌≤◌, ◌↔◌, ◌⊎◌, IfOk, IsSomeAnd, IsTrue};
 ghost use Rattle.nr_explain.specs.Meetings.{is_asked, overlapping};
 
-use crate::search::replies::replies;
 use nr_audit::request_of;
+use nr_touch::replies;
 use nr_trace::Trace;
 use std::alloc::Global;
 use vs_types::Memory;

@@ -1,9 +1,9 @@
 -- How addresses look in a recording that two make, and which touches of the second are right in it.
-use Rattle.std.proofs.Common.{◌≡◌, ◌≢◌, ◌↔◌, ℕ, zero, suc, ◌+◌, ◌-◌, ◌<◌, ◌≤◌, ◌⊎◌, inl, inr, List, ◌∷◌, ◌++◌, length, map, take, Option, None, Some}
+use Rattle.std.proofs.Common.{◌≡◌, ◌≢◌, ◌↔◌, ℕ, suc, ◌+◌, ◌<◌, ◌≤◌, ◌⊎◌, inl, inr, List, ◌∷◌, ◌++◌, length, take, Option}
 use Rattle.std.proofs.Common.{refl, ap, sym, ◌∙◌, subst, arith}
 use Rattle.std.proofs.Math.Seq.{take-length}
 use Rattle.std.proofs.lemmas.Bool.{cases_lt}
-use Rattle.std.proofs.lemmas.List.{length-append, length-map, take-map, take-append-le}
+use Rattle.std.proofs.lemmas.List.{take-map, take-append-le}
 use Rattle.vs_types.specs.Space.{Space, page_at}
 use Rattle.vs_types.specs.Step.{allow_in_page}
 use Rattle.vs_types.specs.declared.page.Page.{Page}
@@ -12,8 +12,9 @@ use Rattle.nr_trace.specs.Calls.{Answers}
 use Rattle.nr_trace.specs.Orders.{space_from}
 use Rattle.nr_trace.proofs.LawsOfLists.{In}
 use Rattle.nr_trace.proofs.LawsOfCalls.{answers_within}
-use Rattle.nr_joined.specs.Joined.{calls_behind, event_behind, joined_traces}
+use Rattle.nr_joined.specs.Joined.{calls_behind, joined_traces}
 use Rattle.nr_joined.specs.Run.{IsOrderly}
+use Rattle.nr_joined.proofs.Lengths.{many_events, many_places}
 use Rattle.nr_joined.proofs.Lists.{split_at, take_behind}
 use Rattle.nr_joined.proofs.Orderly.{own_calls}
 use Rattle.nr_joined.proofs.Orders.{space_left, space_both}
@@ -24,25 +25,8 @@ use Rattle.nr_touch.specs.Tails.{AreOpenFrom, IsNeverAnswered, Lingers}
 use Rattle.nr_touch.specs.Touches.{page_after, touch_behind, ChangesLook, Ends, EndsLook, IsAllowedPrefix, IsAnsweredBefore, IsAnsweredInTime}
 use Rattle.nr_touch.specs.Touches.{IsFaultOfLagging, IsMadeAfter, IsRightTouch}
 use Rattle.nr_touch.specs.declared.touches.touch.Touch.{Touch}
-use Rattle.nr_touch.proofs.QuietPages.{look_or_not}
+use Rattle.nr_touch.proofs.NextChanges.{next_change, NextChange}
 use Rattle.nr_touch.proofs.cuts.Ended.{change_within, ends_changes}
-
--- ---- the next change, if there is one before an end
-
-abbrev pub NextChange : Space → Recording → ℕ → ℕ → ℕ → Type 0
-NextChange start trace address n end =
-    (place : ℕ) × (n ≤ place) × (place < end) × ChangesLook start trace address place × (page_after start trace address place ≡ page_after start trace address n)
-
-pub next_change : (start : Space) (trace : Recording) (address n k : ℕ)
-    → NextChange start trace address n (n + k) ⊎ (page_after start trace address n ≡ page_after start trace address (n + k))
-next_change start trace address n zero = inr (ap (page_after start trace address) (let it : n ≡ n + zero = omega arith in it))
-next_change start trace address n (suc k) = elim (next_change start trace address n k) [
-  | inl (place, low, high, changes, same) ↦ inl (place, low, omega (arith, high), changes, same)
-  | inr so ↦ elim (look_or_not (page_after start trace address (n + k)) (page_after start trace address ((n + k) + 1))) [
-    | inl same ↦ inr (so ∙ same ∙ ap (page_after start trace address) (let it : (n + k) + 1 ≡ n + suc k = omega arith in it))
-    | inr changes ↦ inl (n + k, omega arith, omega arith, changes, sym so)
-  ]
-]
 
 -- ---- what ends before an event
 
@@ -72,16 +56,6 @@ module _ (start : Space) (first second : Recording) (same_layout : second.layout
 
   abbrev between : Space
   between = space_from start first first.log
-
-  pub whole_log : length whole.log ≡ length first.log + length second.log
-  whole_log =
-      length-append first.log (calls_behind (length first.events) second.log)
-      ∙ ap (λ (n : ℕ). length first.log + n) (length-map second.log (λ (call : ℕ). length first.events + call))
-
-  pub many_events : length whole.events ≡ length first.events + length second.events
-  many_events =
-      length-append first.events (map (event_behind (length first.events) (length first.log)) second.events)
-      ∙ ap (λ (n : ℕ). length first.events + n) (length-map second.events (event_behind (length first.events) (length first.log)))
 
   -- ---- the space after some entries
 
@@ -116,36 +90,22 @@ module _ (start : Space) (first second : Recording) (same_layout : second.layout
   -- ---- an update changes, or ends, what it does in its own run
 
   module _ (P : Option Page → Option Page → Type 0) (address : ℕ) where
-    at_first : {a b c d : Option Page} → a ≡ b → c ≡ d → P a c → P b d
-    at_first {a} {b} {c} {d} e f it = subst (λ (page : Option Page). P page d) e (subst (P a) f it)
+    at_both : {a b c d : Option Page} → a ≡ b → c ≡ d → P a c ↔ P b d
+    at_both {a} {b} {c} {d} e f = (λ it. subst (λ page. P page d) e (subst (P a) f it), λ it. subst (λ page. P page c) (sym e) (subst (P b) (sym f) it))
 
     pub front : (place : ℕ) → place < length first.log → P (page_after start whole address place) (page_after start whole address (place + 1))
-        → P (page_after start first address place) (page_after start first address (place + 1))
-    front place l it = at_first (look_front address place (omega (arith, l))) (look_front address (place + 1) (omega (arith, l))) it
-
-    pub to_front : (place : ℕ) → place < length first.log → P (page_after start first address place) (page_after start first address (place + 1))
-        → P (page_after start whole address place) (page_after start whole address (place + 1))
-    to_front place l it = at_first (sym (look_front address place (omega (arith, l)))) (sym (look_front address (place + 1) (omega (arith, l)))) it
+        ↔ P (page_after start first address place) (page_after start first address (place + 1))
+    front place l = at_both (look_front address place (omega (arith, l))) (look_front address (place + 1) (omega (arith, l)))
 
     pub rest : (place : ℕ) → P (page_after start whole address (length first.log + place)) (page_after start whole address ((length first.log + place) + 1))
-        → P (page_after between second address place) (page_after between second address (place + 1))
-    rest place it = at_first (look_rest address place) (look_next address place) it
+        ↔ P (page_after between second address place) (page_after between second address (place + 1))
+    rest place = at_both (look_rest address place) (look_next address place)
 
-    pub to_rest : (place : ℕ) → P (page_after between second address place) (page_after between second address (place + 1))
-        → P (page_after start whole address (length first.log + place)) (page_after start whole address ((length first.log + place) + 1))
-    to_rest place it = at_first (sym (look_rest address place)) (sym (look_next address place)) it
+  pub changes_front : (address place : ℕ) → place < length first.log → ChangesLook start whole address place ↔ ChangesLook start first address place
+  changes_front = front (λ before after. before ≢ after)
 
-  pub changes_front : (address place : ℕ) → place < length first.log → ChangesLook start whole address place → ChangesLook start first address place
-  changes_front address = front (λ before after. before ≢ after) address
-
-  pub changes_to_front : (address place : ℕ) → place < length first.log → ChangesLook start first address place → ChangesLook start whole address place
-  changes_to_front address = to_front (λ before after. before ≢ after) address
-
-  pub changes_rest : (address place : ℕ) → ChangesLook start whole address (length first.log + place) → ChangesLook between second address place
-  changes_rest address = rest (λ before after. before ≢ after) address
-
-  pub changes_to_rest : (address place : ℕ) → ChangesLook between second address place → ChangesLook start whole address (length first.log + place)
-  changes_to_rest address = to_rest (λ before after. before ≢ after) address
+  changes_rest : (address place : ℕ) → ChangesLook start whole address (length first.log + place) ↔ ChangesLook between second address place
+  changes_rest = rest (λ before after. before ≢ after)
 
   -- an update that ends a look is one of the first run, or of the second
   abbrev EndsSo : ℕ → Option Page → ℕ → Type 0
@@ -154,8 +114,8 @@ module _ (start : Space) (first second : Recording) (same_layout : second.layout
 
   ends_so : (address : ℕ) (page : Option Page) (place : ℕ) → EndsLook start whole address page place → EndsSo address page place
   ends_so address page place ends = elim (split_at (length first.log) place) [
-    | inl l ↦ inl (l, front (Ends page) address place l ends)
-    | inr (k, e) ↦ inr (k, e, rest (Ends page) address k (subst (EndsLook start whole address page) e ends))
+    | inl l ↦ inl (l, (front (Ends page) address place l).0 ends)
+    | inr (k, e) ↦ inr (k, e, (rest (Ends page) address k).0 (subst (EndsLook start whole address page) e ends))
   ]
 
   ends_within : (address : ℕ) (page : Option Page) (place : ℕ) → EndsLook start first address page place → place < length first.log
@@ -211,43 +171,41 @@ module _ (start : Space) (first second : Recording) (same_layout : second.layout
 
     pub front_open : (n : ℕ) → EndsBelow start whole address page (length first.events + event) n → AreOpenFrom start first address page n
     front_open n below = below_open start first address page n (λ place ends (call, placed, (reply, before, answers)).
-        below place (to_front (Ends page) address place (ends_within address page place ends) ends)
+        below place ((front (Ends page) address place (ends_within address page place ends)).1 ends)
         (answered_to_front (length first.events + event) place (call, placed, (reply, omega (arith, before), answers))))
 
     pub front_nowhere : (n : ℕ) → n ≤ length first.log → EndsBelow start whole address page (length first.events + event) n
         → EndsNowhere between second address page event
     front_nowhere n low below place ends answered =
-        let less = below (length first.log + place) (to_rest (Ends page) address place ends) (answered_to_rest event place answered) in
+        let less = below (length first.log + place) ((rest (Ends page) address place).1 ends) (answered_to_rest event place answered) in
         omega (arith, less, low)
 
     pub below_rest : (n : ℕ) → EndsBelow between second address page event n
-        → EndsBelow start whole address page (length first.events + event) (length first.log + n)
-    below_rest n below place ends answered = elim (ends_so address page place ends) [
-      | inl (l, own) ↦ omega (arith, l)
-      | inr (k, e, own) ↦
-          let less = below k own (answered_rest event k (subst (λ p. IsAnsweredBefore whole p (length first.events + event)) e answered)) in
-          omega (arith, less, e)
-    ]
-
-    pub rest_below : (n : ℕ) → EndsBelow start whole address page (length first.events + event) (length first.log + n)
-        → EndsBelow between second address page event n
-    rest_below n below place ends answered =
-        let less = below (length first.log + place) (to_rest (Ends page) address place ends) (answered_to_rest event place answered) in
-        omega (arith, less)
+        ↔ EndsBelow start whole address page (length first.events + event) (length first.log + n)
+    below_rest n = (
+      λ below place ends answered. elim (ends_so address page place ends) [
+        | inl (l, own) ↦ omega (arith, l)
+        | inr (k, e, own) ↦
+            let less = below k own (answered_rest event k (subst (λ p. IsAnsweredBefore whole p (length first.events + event)) e answered)) in
+            omega (arith, less, e)
+      ],
+      λ below place ends answered.
+          let less = below (length first.log + place) ((rest (Ends page) address place).1 ends) (answered_to_rest event place answered) in
+          omega (arith, less),
+    )
 
   foresees_rest : (address event n : ℕ) → Foresees between second address event n
-      → Foresees start whole address (length first.events + event) (length first.log + n)
-  foresees_rest address event n none place changes late =
-      let (k, e, own) = made_rest event place late in
-      let low = none k (changes_rest address k (subst (ChangesLook start whole address) e changes)) own in
-      omega (arith, low, e)
-
-  rest_foresees : (address event n : ℕ) → Foresees start whole address (length first.events + event) (length first.log + n)
-      → Foresees between second address event n
-  rest_foresees address event n none place changes (call, placed, late) =
-      let low = none (length first.log + place) (changes_to_rest address place changes)
-      (length first.events + call, placed_right first second place call placed, omega (arith, late)) in
-      omega (arith, low)
+      ↔ Foresees start whole address (length first.events + event) (length first.log + n)
+  foresees_rest address event n = (
+    λ none place changes late.
+        let (k, e, own) = made_rest event place late in
+        let low = none k ((changes_rest address k).0 (subst (ChangesLook start whole address) e changes)) own in
+        omega (arith, low, e),
+    λ none place changes (call, placed, late).
+        let low = none (length first.log + place) ((changes_rest address place).1 changes)
+        (length first.events + call, placed_right first second place call placed, omega (arith, late)) in
+        omega (arith, low),
+  )
 
   -- ---- what lingers behind both
 
@@ -261,7 +219,7 @@ module _ (start : Space) (first second : Recording) (same_layout : second.layout
     | inl l ↦ inr (
       record {
         place = it.place;
-        changes = changes_front address it.place l it.changes;
+        changes = (changes_front address it.place l).0 it.changes;
         still_open = front_open address page (length second.events) it.place (below it.place it.still_open);
         looks = sym (look_front address it.place (omega (arith, l))) ∙ it.looks;
       },
@@ -271,9 +229,9 @@ module _ (start : Space) (first second : Recording) (same_layout : second.layout
     )
     | inr (k, e) ↦ inl (record {
       place = k;
-      changes = changes_rest address k (subst (ChangesLook start whole address) e it.changes);
+      changes = (changes_rest address k).0 (subst (ChangesLook start whole address) e it.changes);
       still_open = below_open between second address page k
-          (rest_below address page (length second.events) k (below (length first.log + k) (subst (AreOpenFrom start whole address page) e it.still_open)));
+          ((below_rest address page (length second.events) k).1 (below (length first.log + k) (subst (AreOpenFrom start whole address page) e it.still_open)));
       looks = sym (look_rest address k) ∙ ap (page_after start whole address) (sym e) ∙ it.looks;
     })
   ] where
@@ -283,19 +241,19 @@ module _ (start : Space) (first second : Recording) (same_layout : second.layout
   pub lingers_to_both : (address : ℕ) (page : Option Page) → LingersSo address page → Lingers start whole address page
   lingers_to_both address page (inl it) = record {
     place = length first.log + it.place;
-    changes = changes_to_rest address it.place it.changes;
+    changes = (changes_rest address it.place).1 it.changes;
     still_open = below_open start whole address page (length first.log + it.place)
-        (subst (λ event. EndsBelow start whole address page event (length first.log + it.place)) (sym many_events)
-        (below_rest address page (length second.events) it.place (open_below between second address page it.place (length second.events) it.still_open)));
+        (subst (λ event. EndsBelow start whole address page event (length first.log + it.place)) (sym (many_events first second))
+        ((below_rest address page (length second.events) it.place).0 (open_below between second address page it.place (length second.events) it.still_open)));
     looks = look_rest address it.place ∙ it.looks;
   }
   lingers_to_both address page (inr (it, none)) =
       let l = change_within start first address it.place it.changes in
       record {
         place = it.place;
-        changes = changes_to_front address it.place l it.changes;
+        changes = (changes_front address it.place l).1 it.changes;
         still_open = below_open start whole address page it.place
-            (subst (λ event. EndsBelow start whole address page event it.place) (sym many_events)
+            (subst (λ event. EndsBelow start whole address page event it.place) (sym (many_events first second))
             (below_front address page (length second.events) it.place it.still_open
             (λ place ends (call, placed, (reply, before, answers)). none place ends call reply placed answers)));
         looks = look_front address it.place (omega (arith, l)) ∙ it.looks;
@@ -313,36 +271,35 @@ module _ (start : Space) (first second : Recording) (same_layout : second.layout
         (page : Option Page) × EndsNowhere between second touch.address page touch.made × Lingers start first touch.address page
         × (touch.answer ≡ allow_in_page touch.address touch.mode touch.access page)
 
-    allowed_rest : (n : ℕ) → IsAllowedPrefix between second touch n → IsAllowedPrefix start whole behind (length first.log + n)
-    allowed_rest n is = record {
-      within = let l = is.within in omega (arith, l, whole_log);
-      flushed = subst (λ (page : Option Page). EndsBelow start whole touch.address page (length first.events + touch.made) (length first.log + n))
-          (sym (look_rest touch.address n)) (below_rest touch.address (page_after between second touch.address n) touch.made n is.flushed);
-      not_foreseen = foresees_rest touch.address touch.answered n is.not_foreseen;
-    }
+    allowed_rest : (n : ℕ) → IsAllowedPrefix between second touch n ↔ IsAllowedPrefix start whole behind (length first.log + n)
+    allowed_rest n = (
+      λ is. record {
+        within = let l = is.within in omega (arith, l, many_places first second);
+        flushed = subst Flushed (sym (look_rest touch.address n)) ((below_rest touch.address look touch.made n).0 is.flushed);
+        not_foreseen = (foresees_rest touch.address touch.answered n).0 is.not_foreseen;
+      },
+      λ is. record {
+        within = let l = is.within in omega (arith, l, many_places first second);
+        flushed = (below_rest touch.address look touch.made n).1 (subst Flushed (look_rest touch.address n) is.flushed);
+        not_foreseen = (foresees_rest touch.address touch.answered n).1 is.not_foreseen;
+      },
+    ) where
+      look : Option Page
+      look = page_after between second touch.address n
 
-    rest_allowed : (n : ℕ) → IsAllowedPrefix start whole behind (length first.log + n) → IsAllowedPrefix between second touch n
-    rest_allowed n is = record {
-      within = let l = is.within in omega (arith, l, whole_log);
-      flushed = rest_below touch.address (page_after between second touch.address n) touch.made n
-          (subst (λ (page : Option Page). EndsBelow start whole touch.address page (length first.events + touch.made) (length first.log + n))
-          (look_rest touch.address n) is.flushed);
-      not_foreseen = rest_foresees touch.address touch.answered n is.not_foreseen;
-    }
+      Flushed : Option Page → Type 0
+      Flushed page = EndsBelow start whole touch.address page (length first.events + touch.made) (length first.log + n)
 
     pub in_time_rest : IsAnsweredInTime between second touch → IsAnsweredInTime start whole behind
-    in_time_rest (n, is, answered) = (
-      length first.log + n,
-      allowed_rest n is,
-      answered ∙ ap (allow_in_page touch.address touch.mode touch.access) (sym (look_rest touch.address n)),
-    )
+    in_time_rest (n, is, answered) =
+        (length first.log + n, (allowed_rest n).0 is, answered ∙ ap (allow_in_page touch.address touch.mode touch.access) (sym (look_rest touch.address n)))
 
     -- an open update's place is allowed, where no update of the second ends how the address looked
     pub right_of_earlier : IsOfEarlier → IsAnsweredInTime start whole behind
     right_of_earlier (page, none, it, answered) = (
       it.place,
       record {
-        within = omega (arith, here, whole_log);
+        within = omega (arith, here, many_places first second);
         flushed = subst (λ (p : Option Page). EndsBelow start whole touch.address p (length first.events + touch.made) it.place) (sym looks)
             (below_front touch.address page touch.made it.place it.still_open none);
         not_foreseen = λ place changes late. let (k, e, own) = made_rest touch.answered place late in omega (arith, here, e);
@@ -358,18 +315,16 @@ module _ (start : Space) (first second : Recording) (same_layout : second.layout
     -- a prefix of the first run is answered as one of the second, or as before the next change there
     front_parts : (n : ℕ) → n < length first.log → IsAllowedPrefix start whole behind n
         → touch.answer ≡ allow_in_page touch.address touch.mode touch.access (page_after start whole touch.address n)
-        → NextChange start first touch.address n (n + (length first.log - n))
-        ⊎ (page_after start first touch.address n ≡ page_after start first touch.address (n + (length first.log - n)))
         → IsAnsweredInTime between second touch ⊎ IsOfEarlier
-    front_parts n l is answered next = by next where
+    front_parts n l is answered = by (next_change start first touch.address n (length first.log) (omega (arith, l))) where
       page : Option Page
       page = page_after start whole touch.address n
 
       nowhere : EndsNowhere between second touch.address page touch.made
       nowhere = front_nowhere touch.address page touch.made n (omega (arith, l)) is.flushed
 
-      by : NextChange start first touch.address n (n + (length first.log - n))
-          ⊎ (page_after start first touch.address n ≡ page_after start first touch.address (n + (length first.log - n)))
+      by : NextChange start first touch.address n (length first.log)
+          ⊎ (page_after start first touch.address n ≡ page_after start first touch.address (length first.log))
           → IsAnsweredInTime between second touch ⊎ IsOfEarlier
       by (inl (place, low, high, changes, same)) = inr (
         page,
@@ -394,15 +349,14 @@ module _ (start : Space) (first second : Recording) (same_layout : second.layout
         looks : page ≡ page_after between second touch.address 0
         looks =
             look_front touch.address n (omega (arith, l)) ∙ same
-            ∙ ap (page_after start first touch.address) (let it : n + (length first.log - n) ≡ length first.log = omega (arith, l) in it)
             ∙ ap (λ (calls : List ℕ). page_at (space_from start first calls) touch.address) (take-length first.log)
 
     pub in_time_parts : IsAnsweredInTime start whole behind → IsAnsweredInTime between second touch ⊎ IsOfEarlier
     in_time_parts (n, is, answered) = elim (split_at (length first.log) n) [
-      | inl l ↦ front_parts n l is answered (next_change start first touch.address n (length first.log - n))
+      | inl l ↦ front_parts n l is answered
       | inr (k, e) ↦ inl (
         k,
-        rest_allowed k (subst (IsAllowedPrefix start whole behind) e is),
+        (allowed_rest k).1 (subst (IsAllowedPrefix start whole behind) e is),
         answered ∙ ap (allow_in_page touch.address touch.mode touch.access) (ap (page_after start whole touch.address) e ∙ look_rest touch.address k),
       )
     ]
@@ -414,9 +368,9 @@ module _ (start : Space) (first second : Recording) (same_layout : second.layout
       fault,
       length first.log + m,
       record {
-        within = let w = it.within in omega (arith, w, whole_log);
+        within = let w = it.within in omega (arith, w, many_places first second);
         known = let k = it.known in omega (arith, k);
-        not_foreseen = foresees_rest touch.address touch.answered m it.not_foreseen;
+        not_foreseen = (foresees_rest touch.address touch.answered m).0 it.not_foreseen;
         absent = look_rest touch.address m ∙ it.absent;
       },
     )
@@ -428,9 +382,9 @@ module _ (start : Space) (first second : Recording) (same_layout : second.layout
         fault,
         k,
         record {
-          within = let w = it.within in omega (arith, w, whole_log, e);
+          within = let w = it.within in omega (arith, w, many_places first second, e);
           known = let known = it.known in omega (arith, known, e);
-          not_foreseen = rest_foresees touch.address touch.answered k
+          not_foreseen = (foresees_rest touch.address touch.answered k).1
               (subst (Foresees start whole touch.address (length first.events + touch.answered)) e it.not_foreseen);
           absent = sym (look_rest touch.address k) ∙ ap (page_after start whole touch.address) (sym e) ∙ it.absent;
         },

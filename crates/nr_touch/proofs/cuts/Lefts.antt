@@ -1,5 +1,5 @@
 -- The looks that a list of changes leaves, and which of its changes say nothing.
-use Rattle.std.proofs.Common.{◌≡◌, ℕ, ◌⊎◌, inl, inr, true, false, List, [], ◌∷◌, ◌++◌, Option, Contains, IsTrue, refl, sym, ◌∙◌, subst}
+use Rattle.std.proofs.Common.{◌≡◌, ◌↔◌, ℕ, ◌⊎◌, inl, inr, true, false, List, [], ◌∷◌, ◌++◌, Option, Contains, IsTrue, sym, ◌∙◌, subst}
 use Rattle.std.proofs.lemmas.Bool.{cases_Bool, false≢true}
 use Rattle.std.proofs.lemmas.List.Elements.{Contains-append_cases, Contains-append_left, Contains-append_right}
 use Rattle.vs_types.specs.Page.{covers}
@@ -49,6 +49,14 @@ module _ (address : ℕ) (page : Option Page) where
     both other has = elim (Contains-append_cases front back other has) [ inl here ↦ own other here | inr there ↦ none other there ]
   left_both (left ∷ front) back (inr (inr more, none)) = inr (left_both front back (inr (more, none)))
 
+  -- where the same looks are left behind others, and what ends these, the same are left of all
+  same_behind : (front old new : List Left) → (IsLeft new address page ↔ IsLeft old address page)
+      → (IsLeft front address page → HasNoEnd new address page ↔ HasNoEnd old address page) → IsLeft (front ++ new) address page ↔ IsLeft (front ++ old) address page
+  same_behind front old new looks ends = (
+    λ it. left_both front old (elim (left_parts front new it) [ inl own ↦ inl (looks.0 own) | inr before ↦ inr (before.0, (ends before.0).0 before.1) ]),
+    λ it. left_both front new (elim (left_parts front old it) [ inl own ↦ inl (looks.1 own) | inr before ↦ inr (before.0, (ends before.0).1 before.1) ]),
+  )
+
 -- ---- which changes say nothing more
 
 -- between some changes and later ones, this one leaves no look, and ends none that is left
@@ -59,28 +67,20 @@ pub record SaysNothing (kept : List Left) (left : Left) (later : List Left) : Ty
       → ends_look left page ≡ false
 
 pub one_less : (kept : List Left) (left : Left) (later : List Left) → SaysNothing kept left later → KeepLooks (kept ++ left ∷ later) (kept ++ later)
-one_less kept left later nothing address page = (
-  λ it. left_both address page kept (left ∷ later) (elim (left_parts address page kept later it) [
-    | inl behind ↦ inl (inr behind)
-    | inr before ↦ inr (before.0, with_it before.0 before.1)
-  ]),
-  λ it. left_both address page kept later (elim (left_parts address page kept (left ∷ later) it) [
-    | inl own ↦ inl (without own)
-    | inr before ↦ inr (before.0, (λ other has. before.1 other (Contains-tail left later other has)))
-  ]),
-) where
-  with_it : IsLeft kept address page → HasNoEnd later address page → HasNoEnd (left ∷ later) address page
-  with_it before none other has = elim (Contains-cases left later other has) [
-    | inl same ↦ subst (λ (l : Left). IsTrue (covers l.change.page address) → ends_look l page ≡ false) same
-        (λ covered. nothing.ends address page covered none before)
-    | inr there ↦ none other there
-  ]
+one_less kept left later nothing address page = same_behind address page kept (left ∷ later) later ((λ it. inr it), without)
+    (λ before. (with_it before, λ none other has. none other (Contains-tail left later other has))) where
+      with_it : IsLeft kept address page → HasNoEnd later address page → HasNoEnd (left ∷ later) address page
+      with_it before none other has = elim (Contains-cases left later other has) [
+        | inl same ↦ subst (λ (l : Left). IsTrue (covers l.change.page address) → ends_look l page ≡ false) same
+            (λ covered. nothing.ends address page covered none before)
+        | inr there ↦ none other there
+      ]
 
-  without : IsLeft (left ∷ later) address page → IsLeft later address page
-  without (inl (covered, open_so, none, looks)) = absurd (false≢true (sym open_so
-      ∙ subst (λ (p : Option Page). ends_look left p ≡ true) looks
-      (nothing.leaves address covered (subst (HasNoEnd later address) (sym looks) none))))
-  without (inr more) = more
+      without : IsLeft (left ∷ later) address page → IsLeft later address page
+      without (inl (covered, open_so, none, looks)) = absurd (false≢true (sym open_so
+          ∙ subst (λ (p : Option Page). ends_look left p ≡ true) looks
+          (nothing.leaves address covered (subst (HasNoEnd later address) (sym looks) none))))
+      without (inr more) = more
 
 -- a later change of all the addresses ends what this one ends, and the look before it
 pub record IsHiddenIn (later : List Left) (left : Left) : Type 0 where
@@ -126,16 +126,8 @@ hidden_ends kept left later hidden address page = (
 -- the same looks of both, where others come before
 pub behind_others : (front old new : List Left) → KeepLooks old new → ((front ≡ [] → ⊥) → KeepEnds old new) → KeepLooks (front ++ old) (front ++ new)
 behind_others [] old new looks ends address page = looks address page
-behind_others (x ∷ front) old new looks ends address page = (
-  λ it. left_both address page (x ∷ front) old (elim (left_parts address page (x ∷ front) new it) [
-    | inl own ↦ inl ((looks address page).0 own)
-    | inr before ↦ inr (before.0, (ends (λ none. cc) address page).0 before.1)
-  ]),
-  λ it. left_both address page (x ∷ front) new (elim (left_parts address page (x ∷ front) old it) [
-    | inl own ↦ inl ((looks address page).1 own)
-    | inr before ↦ inr (before.0, (ends (λ none. cc) address page).1 before.1)
-  ]),
-)
+behind_others (x ∷ front) old new looks ends address page =
+    same_behind address page (x ∷ front) old new (looks address page) (λ before. ends (λ none. cc) address page)
 
 -- a change that ends itself, far from those before it that don't
 pub far_nothing : (kept : List Left) (left : Left) (later : List Left) → ends_look left (page_before left.change) ≡ true → IsFarFrom kept left

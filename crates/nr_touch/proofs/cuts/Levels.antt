@@ -1,8 +1,7 @@
 -- The columns of what was left, level by level.
-use Rattle.std.proofs.Common.{◌≡◌, ◌↔◌, ℕ, zero, suc, ◌+◌, ◌-◌, ◌<◌, ◌≤◌, ◌⊎◌, inl, inr, min, Bool, is_some, List, [], ◌∷◌, ◌++◌, length, map, get_or, slice_get, take}
-use Rattle.std.proofs.Common.{Option, Some, Contains, IsTrue, refl, sym, ap, ◌∙◌, subst, arith}
+use Rattle.std.proofs.Common.{◌≡◌, ℕ, zero, suc, ◌+◌, ◌-◌, ◌<◌, ◌≤◌, ◌⊎◌, inl, inr, min, Bool, is_some, List, [], ◌∷◌, ◌++◌, length, map, get_or, slice_get, take}
+use Rattle.std.proofs.Common.{Option, Some, Contains, refl, sym, ap, ◌∙◌, subst, arith}
 use Rattle.std.specs.List.Sorted.{IsPermutation}
-use Rattle.std.proofs.lemmas.Bool.{cases_lt}
 use Rattle.std.proofs.lemmas.List.{append-nil, append_assoc, length-append, length-map, length-take-le, map-append, take_all, take_more, take-append-le}
 use Rattle.std.proofs.lemmas.List.Elements.{Contains-append_cases, Contains-append_left, Contains-append_right}
 use Rattle.std.proofs.lemmas.List.Sorted.{length_permutation, Contains-permutation, IsPermutation-append, IsPermutation-refl, IsPermutation-sym}
@@ -13,15 +12,15 @@ use Rattle.vs_types.proofs.Lists.{get_left, get_right, not_in_nil}
 use Rattle.nr_touch.specs.inside.Alike.{AreAlikeTo}
 use Rattle.nr_touch.specs.inside.Changes.{ended_at}
 use Rattle.nr_touch.specs.inside.Columns.{AreColumns, Covers, IsNumbered, IsPast}
-use Rattle.nr_touch.specs.inside.Earlier.{IsAnsweredSo, IsLeftAt}
+use Rattle.nr_touch.specs.inside.Earlier.{IsAnsweredSo}
 use Rattle.nr_touch.specs.inside.Levels.{left_in, left_of, AreLevels, ArePlacedAs, ArePlacedFrom, CoverStretches, IsLadder}
 use Rattle.nr_touch.specs.inside.Sights.{IsAnsweredBetween}
 use Rattle.nr_touch.specs.declared.changes.change.PlacedChange.{PlacedChange}
 use Rattle.nr_touch.specs.declared.changes.history.History.{History}
 use Rattle.nr_touch.specs.declared.touches.tail.Left.{Left}
 use Rattle.nr_touch.specs.declared.touches.touch.Touch.{Touch}
-use Rattle.nr_touch.proofs.Lefts.{got_in, in_got}
-use Rattle.nr_touch.proofs.cuts.Placed.{both_placed}
+use Rattle.nr_touch.proofs.Lefts.{in_got}
+use Rattle.nr_touch.proofs.cuts.Placed.{among, both_placed}
 use Rattle.nr_touch.proofs.cuts.Tails.{between_so, so_between}
 
 -- ---- level by level
@@ -61,22 +60,11 @@ back_counts : (start : ℕ) (part rest : List PlacedChange) → CountFrom start 
 back_counts start part rest counts index c at =
     let own = counts (length part + index) c (get_right part rest index ∙ at) in omega (arith, own)
 
-cover_in : (placed : List PlacedChange) (levels : List History) → CoverStretches placed levels → (c : PlacedChange) → Contains (left_in levels) c
-    → Contains placed c
-cover_in placed [] none c has = absurd (not_in_nil c has)
-cover_in placed (level ∷ more) (part, rest, is, same, columns, cover) c has =
-    subst (λ (xs : List PlacedChange). Contains xs c) (sym is) (elim (Contains-append_cases level.changes.items (left_in more) c has) [
-      | inl own ↦ Contains-append_left part rest c (Contains-permutation level.changes.items part c (IsPermutation-sym part level.changes.items same) own)
-      | inr later ↦ Contains-append_right part rest c (cover_in rest more cover c later)
-    ])
-
-level_in : (levels : List History) (index : ℕ) (level : History) → slice_get levels index ≡ Some level → (c : PlacedChange)
-    → Contains level.changes.items c → Contains (left_in levels) c
-level_in [] index level at c has = absurd (none-some level at)
-level_in (own ∷ more) zero level at c has =
-    Contains-append_left own.changes.items (left_in more) c
-    (subst (λ (h : History). Contains h.changes.items c) (sym (same_Some own level at)) has)
-level_in (own ∷ more) (suc index) level at c has = Contains-append_right own.changes.items (left_in more) c (level_in more index level at c has)
+pub levels_permuted : (placed : List PlacedChange) (levels : List History) → CoverStretches placed levels → IsPermutation placed (left_in levels)
+levels_permuted placed [] none = subst (λ (xs : List PlacedChange). IsPermutation xs []) (sym none) (IsPermutation-refl [])
+levels_permuted placed (level ∷ more) (part, rest, is, same, columns, cover) =
+    subst (λ (xs : List PlacedChange). IsPermutation xs (level.changes.items ++ left_in more)) (sym is)
+    (IsPermutation-append part level.changes.items rest (left_in more) same (levels_permuted rest more cover))
 
 place_in : (start : ℕ) (placed : List PlacedChange) → CountFrom start placed → (c : PlacedChange) → Contains placed c
     → (start ≤ c.place) × (c.place < start + length placed)
@@ -86,28 +74,19 @@ place_in start placed counts c has =
     let within = slice_get_within placed index c at in
     (omega (arith, own), omega (arith, own, within))
 
-columns_of : (placed : List PlacedChange) (levels : List History) → CoverStretches placed levels → (index : ℕ) (level : History)
-    → slice_get levels index ≡ Some level → AreColumns level
-columns_of placed [] none index level at = absurd (none-some level at)
-columns_of placed (own ∷ more) (part, rest, is, same, columns, cover) zero level at = subst AreColumns (same_Some own level at) columns
-columns_of placed (own ∷ more) (part, rest, is, same, columns, cover) (suc index) level at = columns_of rest more cover index level at
-
-rise_of : (start : ℕ) (placed : List PlacedChange) (levels : List History) → CountFrom start placed → CoverStretches placed levels → (index : ℕ)
-    (level : History) → slice_get levels index ≡ Some level → (c d : PlacedChange) → Contains (left_in (take index levels)) c
-    → Contains level.changes.items d → c.place < d.place
-rise_of start placed [] counts none index level at c d has_c has_d = absurd (none-some level at)
-rise_of start placed (own ∷ more) counts cover zero level at c d has_c has_d = absurd (not_in_nil c has_c)
-rise_of start placed (own ∷ more) counts (part, rest, is, same, columns, cover) (suc index) level at c d has_c has_d =
-    let all = subst (CountFrom start) is counts in
-    let behind = back_counts start part rest all in
-    elim (Contains-append_cases own.changes.items (left_in (take index more)) c has_c) [
-      | inl front ↦
-          let up = place_in start part (front_counts start part rest all) c
-          (Contains-permutation own.changes.items part c (IsPermutation-sym part own.changes.items same) front) in
-          let low = place_in (start + length part) rest behind d (cover_in rest more cover d (level_in more index level at d has_d)) in
-          omega (arith, up.1, low.0)
-      | inr later ↦ rise_of (start + length part) rest more behind cover index level at c d later has_d
-    ]
+-- a level is of a stretch of the changes, and the levels before it of those in front
+stretch_at : (placed : List PlacedChange) (levels : List History) → CoverStretches placed levels → (index : ℕ) (level : History)
+    → slice_get levels index ≡ Some level → (front part rest : List PlacedChange) × (placed ≡ front ++ (part ++ rest))
+    × IsPermutation front (left_in (take index levels)) × IsPermutation part level.changes.items × AreColumns level
+stretch_at placed [] none index level at = absurd (none-some level at)
+stretch_at placed (own ∷ more) (part, rest, is, same, columns, cover) zero level at =
+    let mine = subst (λ (h : History). IsPermutation part h.changes.items) (same_Some own level at) same in
+    ([], part, rest, is, IsPermutation-refl [], mine, subst AreColumns (same_Some own level at) columns)
+stretch_at placed (own ∷ more) (part, rest, is, same, columns, cover) (suc index) level at =
+    let (front, here, behind, rest_is, before, mine, ordered) = stretch_at rest more cover index level at in
+    let whole = is ∙ ap (λ (xs : List PlacedChange). part ++ xs) rest_is ∙ sym (append_assoc part front (here ++ behind)) in
+    let all = IsPermutation-append part own.changes.items front (left_in (take index more)) same before in
+    (part ++ front, here, behind, whole, all, mine, ordered)
 
 numbered_of : (placed : List PlacedChange) (levels : List History) → CoverStretches placed levels → (c : PlacedChange) → Contains (left_in levels) c
     → IsNumbered c
@@ -120,15 +99,16 @@ numbered_of placed (level ∷ more) (part, rest, is, same, columns, cover) c has
 pub ladder : (changes : List Left) (levels : List History) → AreLevels changes levels → IsLadder levels
 ladder changes levels are = record {
   numbered = numbered_of are.placed levels are.cover;
-  each = columns_of are.placed levels are.cover;
-  rise = rise_of 0 are.placed levels are.are.places are.cover;
+  each = λ index level at. let (front, part, rest, is, before, here, columns) = stretch_at are.placed levels are.cover index level at in columns;
+  rise = λ index level at c d has_c has_d.
+      let (front, part, rest, is, before, here, columns) = stretch_at are.placed levels are.cover index level at in
+      let counts = subst (CountFrom 0) is are.are.places in
+      let up = place_in 0 front (front_counts 0 front (part ++ rest) counts) c
+      (Contains-permutation (left_in (take index levels)) front c (IsPermutation-sym front (left_in (take index levels)) before) has_c) in
+      let low = place_in (0 + length front) part (front_counts (0 + length front) part rest (back_counts 0 front (part ++ rest) counts)) d
+      (Contains-permutation level.changes.items part d (IsPermutation-sym part level.changes.items here) has_d) in
+      omega (arith, up.1, low.0);
 }
-
-pub levels_permuted : (placed : List PlacedChange) (levels : List History) → CoverStretches placed levels → IsPermutation placed (left_in levels)
-levels_permuted placed [] none = subst (λ (xs : List PlacedChange). IsPermutation xs []) (sym none) (IsPermutation-refl [])
-levels_permuted placed (level ∷ more) (part, rest, is, same, columns, cover) =
-    subst (λ (xs : List PlacedChange). IsPermutation xs (level.changes.items ++ left_in more)) (sym is)
-    (IsPermutation-append part level.changes.items rest (left_in more) same (levels_permuted rest more cover))
 
 -- ---- one level more, and one less
 
@@ -264,60 +244,27 @@ module _ (front rows : List PlacedChange) (rise : (c d : PlacedChange) → Conta
             let up = rise at.change d before has in
             absurd (omega (arith, less, up))
       ]),
-      (
-        page,
-        record {
-          change = at.change;
-          has = before;
-          covers_it = at.covers_it;
-          still_open = λ other has. at.still_open other (Contains-append_left front rows other has);
-          looks = at.looks;
-        },
-        answered,
-      ),
+      (page, among touch.address page (front ++ rows) front at before (λ other has. at.still_open other (Contains-append_left front rows other has)), answered),
     )
-    | inr own ↦ inl (so_between touch finds told rows first past numbered (
-      page,
-      record {
-        change = at.change;
-        has = own;
-        covers_it = at.covers_it;
-        still_open = λ other has. at.still_open other (Contains-append_right front rows other has);
-        looks = at.looks;
-      },
-      answered,
-    ))
+    | inr own ↦ inl (so_between touch finds told rows first past numbered
+        (page, among touch.address page (front ++ rows) rows at own (λ other has. at.still_open other (Contains-append_right front rows other has)), answered))
   ]
 
   pub answered_by : AnsweredParts → IsAnsweredSo (front ++ rows) touch
   answered_by (inl between) =
-      let (page, at, answered) = between_so touch finds told rows first past between in (
-        page,
-        record {
-          change = at.change;
-          has = Contains-append_right front rows at.change at.has;
-          covers_it = at.covers_it;
-          still_open = λ other has covered early. elim (Contains-append_cases front rows other has) [
-            | inl before ↦ rise other at.change before at.has
-            | inr own ↦ at.still_open other own covered early
-          ];
-          looks = at.looks;
-        },
-        answered,
-      )
-  answered_by (inr (none, (page, at, answered))) = (
-    page,
-    record {
-      change = at.change;
-      has = Contains-append_left front rows at.change at.has;
-      covers_it = at.covers_it;
-      still_open = λ other has covered early. elim (Contains-append_cases front rows other has) [
+      let (page, at, answered) = between_so touch finds told rows first past between in
+      let whole = among touch.address page rows (front ++ rows) at (Contains-append_right front rows at.change at.has) (λ other has covered early.
+      elim (Contains-append_cases front rows other has) [
+        | inl before ↦ rise other at.change before at.has
+        | inr own ↦ at.still_open other own covered early
+      ]) in
+      (page, whole, answered)
+  answered_by (inr (none, (page, at, answered))) =
+      let whole = among touch.address page front (front ++ rows) at (Contains-append_left front rows at.change at.has) (λ other has covered early.
+      elim (Contains-append_cases front rows other has) [
         | inl before ↦ at.still_open other before covered early
         | inr own ↦
             let less = past.all other own (covered, subst (λ b. ended_at b other < 4294967295) (sym (told page answered)) early) in
             absurd (omega (arith, less, none))
-      ];
-      looks = at.looks;
-    },
-    answered,
-  )
+      ]) in
+      (page, whole, answered)

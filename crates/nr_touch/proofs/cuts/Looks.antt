@@ -1,9 +1,9 @@
 -- The list of the looks that changes leave an address.
 use Rattle.std.specs.Prelude.{◌&&◌, ◌||◌, if◌then◌else◌, not}
-use Rattle.std.proofs.Common.{◌≡◌, ℕ, ◌+◌, ◌-◌, ◌<◌, ◌≤◌, ◌⊎◌, inl, inr, Bool, true, false, cond, List, [], ◌∷◌, ◌++◌, drop, get_or, length, reverse, Option, Some, None, Contains}
+use Rattle.std.proofs.Common.{◌≡◌, ℕ, ◌+◌, ◌≤◌, inl, inr, Bool, true, false, cond, List, [], ◌∷◌, ◌++◌, drop, get_or, length, reverse, Option, Some, None, Contains}
 use Rattle.std.proofs.Common.{IsTrue, refl, sym, ap, ◌∙◌, subst, arith}
 use Rattle.std.proofs.Math.Bool.{and-false}
-use Rattle.std.proofs.lemmas.Bool.{and_parts, false≢true, or_parts}
+use Rattle.std.proofs.lemmas.Bool.{and_parts, not-true, or_parts}
 use Rattle.std.proofs.lemmas.Grind.{reverse_onto}
 use Rattle.std.proofs.lemmas.List.{drop_all, drop_more, reverse-reverse}
 use Rattle.std.proofs.lemmas.List.Elements.{Contains-append_cases, Contains-append_left, Contains-append_right}
@@ -16,7 +16,6 @@ use Rattle.nr_touch.specs.Looks.{is_ended, looks_left, AreLooksLeft, IsLookLeft}
 use Rattle.nr_touch.specs.Tails.{ends_look, HasNoEnd, IsLeft}
 use Rattle.nr_touch.specs.inside.Changes.{page_before}
 use Rattle.nr_touch.specs.inside.Lefts.{AreEndedBy}
-use Rattle.nr_touch.specs.declared.changes.change.Change.{Change}
 use Rattle.nr_touch.specs.declared.touches.looks.Ended.{Ended}
 use Rattle.nr_touch.specs.declared.touches.tail.Left.{Left}
 
@@ -46,10 +45,6 @@ module _ (address : ℕ) (page : Option Page) where
 
 -- ---- just these looks are left
 
-not_true : (b : Bool) → not b ≡ true → b ≡ false
-not_true true e = absurd (false≢true e)
-not_true false e = refl
-
 in_one : (b : Bool) (x y : Answer) → Contains (cond b (x ∷ []) []) y → (b ≡ true) × (x ≡ y)
 in_one true x y has = elim (Contains-cases x [] y has) [ inl same ↦ (refl, same) | inr none ↦ absurd (not_in_nil y none) ]
 in_one false x y has = absurd (not_in_nil y has)
@@ -61,7 +56,7 @@ looks_are (left ∷ later) address look = (
     | inl mine ↦
         let (both, same) = in_one leaves own look mine in
         let parts = and_parts (covers left.change.page address) (not (is_ended (left ∷ later) address page)) both in
-        let none = has_no_end address page (left ∷ later) (not_true (is_ended (left ∷ later) address page) parts.1) in (
+        let none = has_no_end address page (left ∷ later) (not-true (is_ended (left ∷ later) address page) parts.1) in (
           page,
           inl (parts.0, none left (Contains-head left later) parts.0, (λ other there. none other (Contains-tail left later other there)), refl),
           sym same,
@@ -113,14 +108,6 @@ module _ (left : Left) (later : List Left) (address : ℕ) where
     none = are.none ∙ ap (λ (b : Bool). (b && ends_look left None) || is_ended later address None) (sym e);
   }
 
-  -- or has it
-  pub ended_more : covers left.change.page address ≡ true → (ended : Ended) → AreEndedBy later address ended
-      → AreEndedBy (left ∷ later) address (record { page = (left.over && left.change.takes) || ended.page; none = left.over || ended.none })
-  ended_more e ended are = record {
-    page = λ p. λ i. (sym e i && (left.over && left.change.takes)) || are.page p i;
-    none = λ i. (sym e i && left.over) || are.none i;
-  }
-
   pub looks_ended : ended_now ≡ true → looks_left (left ∷ later) address ≡ looks_left later address
   looks_ended e =
       ap (leaves_by (covers left.change.page address)) e
@@ -137,13 +124,6 @@ module _ (left : Left) (later : List Left) (address : ℕ) where
       ap (λ (xs : List Answer). xs ++ look_in_page address (page_before left.change) ∷ []) is
       ∙ sym (reverse_onto (looks_left later address) (look_in_page address (page_before left.change)) [])
       ∙ ap reverse (sym (looks_more covered e))
-
-pub ended_before : (changes : List Left) (address : ℕ) (ended : Ended) (change : Change) → AreEndedBy changes address ended
-    → cond change.was_mapped ended.page ended.none ≡ is_ended changes address (page_before change)
-ended_before changes address ended change are = by change.was_mapped where
-  by : (mapped : Bool) → cond mapped ended.page ended.none ≡ is_ended changes address (cond mapped (Some change.page) None)
-  by true = are.page change.page
-  by false = are.none
 
 -- what the last ones leave, this many
 pub record IsListedFrom (changes : List Left) (address from : ℕ) (ended : Ended) (looks : List Answer) : Type 0 where

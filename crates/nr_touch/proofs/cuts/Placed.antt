@@ -1,9 +1,9 @@
 -- The looks that changes with places leave, and those that linger behind a run.
 use Rattle.std.proofs.Common.{◌≡◌, ◌↔◌, ℕ, zero, suc, ◌+◌, ◌-◌, ◌<◌, ◌≤◌, ◌^◌, ◌⊎◌, inl, inr, Bool, true, false, cond, nat_lt, is_some, List, [], ◌∷◌, ◌++◌, length, map, get_or, slice_get}
-use Rattle.std.proofs.Common.{take, drop, Option, Some, None, option_map, Contains, IsTrue, refl, sym, ap, ◌∙◌, subst, arith}
+use Rattle.std.proofs.Common.{take, drop, Option, Some, option_map, Contains, IsTrue, refl, sym, ap, ◌∙◌, subst, arith}
 use Rattle.std.specs.List.Sorted.{IsNonDecreasingBy, IsPermutation}
 use Rattle.std.proofs.lemmas.Bool.{cases_Bool, cases_lt, false≢true}
-use Rattle.std.proofs.lemmas.List.{get_or-drop, length-append, length-drop, length-map, length-take-le, map-append, take_more}
+use Rattle.std.proofs.lemmas.List.{get_or-drop, length-drop, length-map, length-take-le, map-append, take_more}
 use Rattle.std.proofs.lemmas.List.Elements.{Contains-push_cases}
 use Rattle.std.proofs.lemmas.List.Sorted.{IsNonDecreasingBy-drop, IsPermutation-sym, Contains-permutation}
 use Rattle.std.proofs.lemmas.Option.{none-some, same_Some, slice_get-map, slice_get_within, slice_get-get_or, get_or_from_slice_get}
@@ -57,6 +57,11 @@ module _ (address : ℕ) (page : Option Page) where
   ended_not : (c : PlacedChange) → ends_look (left_of c) page ≡ false → IsEnded c → ⊥
   ended_not c fine early = false≢true (sym fine ∙ (ends_at c page).1 early)
 
+  -- what is left by a change among some is left by it among others, where none of these ends it
+  pub among : (xs ys : List PlacedChange) (at : IsLeftAt xs address page) → Contains ys at.change
+      → ((other : PlacedChange) → Contains ys other → Covers address other → IsEnded other → other.place < at.change.place) → IsLeftAt ys address page
+  among xs ys at has still = record { change = at.change; has = has; covers_it = at.covers_it; still_open = still; looks = at.looks }
+
   pub left_at : (changes : List PlacedChange) → AreRising changes → AreAlike changes → IsLeft (map left_of changes) address page
       → IsLeftAt changes address page
   left_at [] rises alike it = absurd it
@@ -73,24 +78,18 @@ module _ (address : ℕ) (page : Option Page) where
   left_at (x ∷ rest) rises alike (inr more) = behind (left_at rest (IsNonDecreasingBy-drop (λ (c : PlacedChange). c.place) 1 (x ∷ rest) rises)
       (λ c d has_c has_d. alike c d (Contains-tail x rest c has_c) (Contains-tail x rest d has_d)) more) where
         behind : IsLeftAt rest address page → IsLeftAt (x ∷ rest) address page
-        behind it = record {
-          change = it.change;
-          has = Contains-tail x rest it.change it.has;
-          covers_it = it.covers_it;
-          still_open = λ other has there early. elim (Contains-cases x rest other has) [
-            | inl same ↦ elim (cases_lt other.place it.change.place) [
-              | inl less ↦ less
-              | inr past ↦
-                  let up = least_first x rest rises it.change (Contains-tail x rest it.change it.has) in
-                  let at : x.place ≡ other.place = ap (λ (c : PlacedChange). c.place) same in
-                  let too = alike other it.change has (Contains-tail x rest it.change it.has) there it.covers_it (omega (arith, up, past, at)) early in
-                  let less = it.still_open it.change it.has it.covers_it too in
-                  absurd (omega (arith, less))
-            ]
-            | inr later ↦ it.still_open other later there early
-          ];
-          looks = it.looks;
-        }
+        behind it = among rest (x ∷ rest) it (Contains-tail x rest it.change it.has) (λ other has there early. elim (Contains-cases x rest other has) [
+          | inl same ↦ elim (cases_lt other.place it.change.place) [
+            | inl less ↦ less
+            | inr past ↦
+                let up = least_first x rest rises it.change (Contains-tail x rest it.change it.has) in
+                let at : x.place ≡ other.place = ap (λ (c : PlacedChange). c.place) same in
+                let too = alike other it.change has (Contains-tail x rest it.change it.has) there it.covers_it (omega (arith, up, past, at)) early in
+                let less = it.still_open it.change it.has it.covers_it too in
+                absurd (omega (arith, less))
+          ]
+          | inr later ↦ it.still_open other later there early
+        ])
 
   pub at_left : (changes : List PlacedChange) → AreRising changes → IsLeftAt changes address page → IsLeft (map left_of changes) address page
   at_left [] rises it = absurd (not_in_nil it.change it.has)
@@ -116,22 +115,11 @@ module _ (address : ℕ) (page : Option Page) where
                   (fine same c (Contains-tail x rest c has_c) (subst (λ (l : Left). IsTrue (covers l.change.page address)) (sym is) there))),
               ap (λ (c : PlacedChange). page_before c.change) same ∙ it.looks,
             )
-        by (inr behind) more = inr (more (record {
-          change = it.change;
-          has = behind;
-          covers_it = it.covers_it;
-          still_open = λ other has. it.still_open other (Contains-tail x rest other has);
-          looks = it.looks;
-        }))
+        by (inr behind) more = inr (more (among (x ∷ rest) rest it behind (λ other has. it.still_open other (Contains-tail x rest other has))))
 
   pub left_permuted : (xs ys : List PlacedChange) → IsPermutation xs ys → IsLeftAt xs address page → IsLeftAt ys address page
-  left_permuted xs ys same it = record {
-    change = it.change;
-    has = Contains-permutation xs ys it.change same it.has;
-    covers_it = it.covers_it;
-    still_open = λ other has. it.still_open other (Contains-permutation ys xs other (IsPermutation-sym xs ys same) has);
-    looks = it.looks;
-  }
+  left_permuted xs ys same it = among xs ys it (Contains-permutation xs ys it.change same it.has)
+      (λ other has. it.still_open other (Contains-permutation ys xs other (IsPermutation-sym xs ys same) has))
 
 -- ---- what a segment leaves
 

@@ -1,5 +1,5 @@
 -- What is left behind a run and a segment, and which touches of the segment it answers.
-use Rattle.std.proofs.Common.{◌≡◌, ◌↔◌, ℕ, ◌+◌, ◌<◌, ◌≤◌, ◌^◌, ◌⊎◌, inl, inr, Bool, is_some, List, [], ◌++◌, length, map, get_or, slice_get, Option, Some, None, Contains, IfSome}
+use Rattle.std.proofs.Common.{◌≡◌, ◌↔◌, ℕ, ◌<◌, ◌^◌, ◌⊎◌, inl, inr, Bool, is_some, List, ◌++◌, length, map, get_or, slice_get, Option, Some, None, Contains, IfSome}
 use Rattle.std.proofs.Common.{refl, sym, ap, ◌∙◌, subst, arith}
 use Rattle.std.specs.List.Sorted.{IsPermutation}
 use Rattle.std.proofs.lemmas.List.Sorted.{IsPermutation-sym, Contains-permutation}
@@ -11,10 +11,10 @@ use Rattle.vs_types.proofs.Lists.{not_in_nil}
 use Rattle.nr_trace.specs.Recording.{Recording}
 use Rattle.nr_trace.specs.Calls.{Answers}
 use Rattle.nr_trace.specs.Orders.{space_from}
-use Rattle.nr_joined.specs.Run.{Run, end_of, run_with, IsOrderly}
+use Rattle.nr_joined.specs.Run.{Run, run_with, IsOrderly}
 use Rattle.nr_joined.proofs.Orderly.{orderly_both, space_of_both}
 use Rattle.nr_touch.specs.Tails.{GoesOn, IsLeft, IsNeverAnswered, IsTailOf, Lingers}
-use Rattle.nr_touch.specs.Touches.{page_after, ChangesLook, EndsLook, IsRightBehind, IsRightTouch}
+use Rattle.nr_touch.specs.Touches.{page_after, ChangesLook, EndsLook, IsAnsweredInTime, IsFaultOfLagging, IsRightBehind, IsRightTouch}
 use Rattle.nr_touch.specs.inside.Changes.{ended_at, page_before, AreChanges}
 use Rattle.nr_touch.specs.inside.Columns.{Covers, IsNumbered, IsPast}
 use Rattle.nr_touch.specs.inside.Earlier.{AreOfRun, EndsNowhere, IsAnsweredSo, IsLeftAt}
@@ -197,11 +197,12 @@ module _ (touch : Touch) (finds : Bool)
   module _ (start : Space) (segment : Recording) (own earlier : List PlacedChange) (are : AreChanges start segment own) (fits : touch.made < 2 ^ 32)
       (first : ℕ) (past : IsPast own (λ c. Covers touch.address c × (ended_at finds c < touch.made)) first)
       (before : Option Run) (goes_on : GoesOn before segment start) (of_it : AreOfRun before earlier) where
-    pub right_behind : IsRightBehind before start segment touch
-        → IsRightTouch start segment touch ⊎ ((first ≡ 0) × IsAnsweredSo earlier touch)
-    right_behind right = elim ((parts_behind start segment earlier touch before goes_on of_it).0 right) [
-      | inl mine ↦ inl mine
-      | inr (page, none, at, answered) ↦ inr (
+    pub right_behind : (IsAnsweredInTime start segment touch → ⊥) → (IsFaultOfLagging start segment touch → ⊥) → IsRightBehind before start segment touch
+        → (first ≡ 0) × IsAnsweredSo earlier touch
+    right_behind late known right = elim ((parts_behind start segment earlier touch before goes_on of_it).0 right) [
+      | inl (inl in_time) ↦ absurd (late in_time)
+      | inl (inr lagging) ↦ absurd (known lagging)
+      | inr (page, none, at, answered) ↦ (
         (let low = past_ends start segment touch.address touch.made fits own are page first (past_of own touch.made first past page answered) 0
             (λ place ends early. absurd (none place ends early)) in omega (arith, low)),
         (page, at, answered),

@@ -6,7 +6,7 @@ use Rattle.std.specs.BTreeSet.{contains, Updates}
 use Rattle.std.proofs.lemmas.Bool.{cases_lt, false≢true}
 use Rattle.std.proofs.lemmas.List.{append-nil, append_assoc, drop_all, drop_more, length-append, length-take-le, take-append-drop}
 use Rattle.std.proofs.lemmas.List.Elements.{Contains-append_cases, Contains-append_left, Contains-append_right, Contains-push_cases}
-use Rattle.vs_types.specs.Page.{bytes_of, covers, level_of}
+use Rattle.vs_types.specs.Page.{bytes_of, level_of}
 use Rattle.vs_types.specs.declared.page.Page.{Page}
 use Rattle.vs_types.specs.declared.page.Size.{Size}
 use Rattle.vs_types.specs.declared.page.Size.TheVariants.{K4, M2, G1}
@@ -118,28 +118,20 @@ pub record IsThinnedTo (changes kept : List Left) (numbers : BTreeSet ℕ) (are_
   pub few : length kept ≤ end
   pub noted : AreNoted kept numbers
 
-same_looks : (xs ys : List Left) → ys ≡ xs → KeepLooks xs ys
-same_looks xs ys same address page = subst (λ (zs : List Left). IsLeft ys address page ↔ IsLeft zs address page) same ((λ it. it), λ it. it)
-
-then_looks : (xs ys zs : List Left) → KeepLooks xs ys → KeepLooks ys zs → KeepLooks xs zs
-then_looks xs ys zs first then address page =
-    (λ it. (first address page).0 ((then address page).0 it), λ it. (then address page).1 ((first address page).1 it))
-
-same_ends : (xs ys : List Left) → ys ≡ xs → KeepEnds xs ys
-same_ends xs ys same address page = subst (λ (zs : List Left). HasNoEnd ys address page ↔ HasNoEnd zs address page) same ((λ it. it), λ it. it)
-
-then_ends : (xs ys zs : List Left) → KeepEnds xs ys → KeepEnds ys zs → KeepEnds xs zs
-then_ends xs ys zs first then address page =
+-- what is kept twice
+kept_twice : (Q : List Left → ℕ → Option Page → Type 0) (xs ys zs : List Left) → ((address : ℕ) (page : Option Page) → Q ys address page ↔ Q xs address page)
+    → ((address : ℕ) (page : Option Page) → Q zs address page ↔ Q ys address page) → (address : ℕ) (page : Option Page) → Q zs address page ↔ Q xs address page
+kept_twice Q xs ys zs first then address page =
     (λ it. (first address page).0 ((then address page).0 it), λ it. (then address page).1 ((first address page).1 it))
 
 pub none_thinned : (changes kept : List Left) (numbers : BTreeSet ℕ) (are_first : Bool) → kept ≡ [] → IsThinnedTo changes kept numbers are_first 0
-none_thinned changes kept numbers are_first is = record {
-  looks = same_looks changes (kept ++ changes) (ap (λ (xs : List Left). xs ++ changes) is);
-  ends = λ behind. same_ends changes (kept ++ changes) (ap (λ (xs : List Left). xs ++ changes) is);
-  each = λ left has. absurd (not_in_nil left (subst (λ (xs : List Left). Contains xs left) is has));
-  few = let none = ap length is in omega (arith, none);
-  noted = λ left has open_so. absurd (not_in_nil left (subst (λ (xs : List Left). Contains xs left) is has));
-}
+none_thinned changes kept numbers are_first is = subst (λ (xs : List Left). IsThinnedTo changes xs numbers are_first 0) (sym is) (record {
+  looks = λ address page. (λ it. it, λ it. it);
+  ends = λ behind address page. (λ it. it, λ it. it);
+  each = λ left has. absurd (not_in_nil left has);
+  few = omega arith;
+  noted = λ left has open_so. absurd (not_in_nil left has);
+})
 
 module _ (changes kept : List Left) (are_first : Bool) (end : ℕ) (d : Left) (l : end < length changes) where
   abbrev left : Left
@@ -152,10 +144,8 @@ module _ (changes kept : List Left) (are_first : Bool) (end : ℕ) (d : Left) (l
   pub one_kept : (old new : BTreeSet ℕ) → IsSoundLeft left → (AreNoted kept old → AreNoted (kept ++ left ∷ []) new) → IsThinnedTo changes kept old are_first end
       → IsThinnedTo changes (kept ++ left ∷ []) new are_first (end + 1)
   one_kept old new sound notes is = record {
-    looks = then_looks changes (kept ++ drop end changes) ((kept ++ left ∷ []) ++ drop (end + 1) changes) is.looks
-        (same_looks (kept ++ drop end changes) ((kept ++ left ∷ []) ++ drop (end + 1) changes) moved);
-    ends = λ behind. then_ends changes (kept ++ drop end changes) ((kept ++ left ∷ []) ++ drop (end + 1) changes) (is.ends behind)
-        (same_ends (kept ++ drop end changes) ((kept ++ left ∷ []) ++ drop (end + 1) changes) moved);
+    looks = subst (KeepLooks changes) (sym moved) is.looks;
+    ends = λ behind. subst (KeepEnds changes) (sym moved) (is.ends behind);
     each = λ other has. elim (Contains-push_cases kept left other has) [ inl old ↦ is.each other old | inr new ↦ subst IsSoundLeft new sound ];
     few = let many = length-append kept (left ∷ []) in let low = is.few in omega (arith, many, low);
     noted = notes is.noted;
@@ -166,10 +156,10 @@ module _ (changes kept : List Left) (are_first : Bool) (end : ℕ) (d : Left) (l
       → (are_first ≡ false → KeepEnds (kept ++ left ∷ drop (end + 1) changes) (kept ++ drop (end + 1) changes))
       → IsThinnedTo changes kept numbers are_first end → IsThinnedTo changes kept numbers are_first (end + 1)
   one_dropped numbers nothing ends is = record {
-    looks = then_looks changes (kept ++ drop end changes) (kept ++ drop (end + 1) changes) is.looks
+    looks = kept_twice IsLeft changes (kept ++ drop end changes) (kept ++ drop (end + 1) changes) is.looks
         (subst (λ (xs : List Left). KeepLooks (kept ++ xs) (kept ++ drop (end + 1) changes)) (sym (drop_more changes end d l))
         (one_less kept left (drop (end + 1) changes) nothing));
-    ends = λ behind. then_ends changes (kept ++ drop end changes) (kept ++ drop (end + 1) changes) (is.ends behind)
+    ends = λ behind. kept_twice HasNoEnd changes (kept ++ drop end changes) (kept ++ drop (end + 1) changes) (is.ends behind)
         (subst (λ (xs : List Left). KeepEnds (kept ++ xs) (kept ++ drop (end + 1) changes)) (sym (drop_more changes end d l)) (ends behind));
     each = is.each;
     few = let low = is.few in omega (arith, low);

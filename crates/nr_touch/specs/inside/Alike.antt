@@ -1,5 +1,5 @@
 -- Addresses that have the same changes. No public clause cites this file.
-use Rattle.std.specs.Prelude.{ℕ, ◌-◌, ◌%◌, ◌+◌, ◌<◌, ◌≤◌, ◌↔◌, ◌⊎◌, List, Contains}
+use Rattle.std.specs.Prelude.{ℕ, ◌-◌, ◌%◌, ◌+◌, ◌<◌, ◌≤◌, ◌↔◌, List, Contains}
 use Rattle.vs_types.specs.Page.{bytes_of}
 use Rattle.vs_types.specs.declared.page.Size.{Size}
 use Rattle.nr_touch.specs.inside.Changes.{number_at}

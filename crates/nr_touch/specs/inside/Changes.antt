@@ -76,8 +76,8 @@ listed None place made answered = []
 listed (Some change) place made answered =
     record { change = change; number = number_of change.page; place = place; made = made; answered = answered } ∷ []
 
--- by the index of a call the first event that answers it, of the events below an end
-pub record AreReplies (trace : Recording) (replies : List ℕ) (end : ℕ) : Type 0 where
+-- the first replies to all calls, of the events below an end
+pub record AreRepliesBelow (trace : Recording) (replies : List ℕ) (end : ℕ) : Type 0 where
   pub one_each : length replies ≡ length trace.events
   pub first : (call event : ℕ) → call < length replies → event < 2 ^ 32
       → (slice_index replies call < event) ↔ ((reply : ℕ) × (reply < event) × (reply < end) × Answers trace reply call)

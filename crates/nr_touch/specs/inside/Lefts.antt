@@ -1,5 +1,5 @@
 -- The changes that are left behind segments. No public clause cites this file.
-use Rattle.std.specs.Prelude.{◌≡◌, ℕ, ◌<◌, ◌↔◌, ◌||◌, if◌then◌else◌, nat_lt, List, map, slice_get, true, false, Option, None, Some, Contains}
+use Rattle.std.specs.Prelude.{◌≡◌, ℕ, ◌<◌, ◌↔◌, ◌||◌, List, true, false, Option, None, Some, Contains}
 use Rattle.std.specs.Prelude.{IsTrue}
 use Rattle.std.specs.BTreeSet.{contains, BTreeSet}
 use Rattle.std.specs.Ordering.{nat_cmp}

@@ -54,11 +54,15 @@ pub record IsSamePlace (page other : Page) : Type 0 where
   pub size : page.size ≡ other.size
   pub phys : page.phys ≡ other.phys
 
--- a touch that is made and answered at an event may find just this page at an address: as after some entries of the segment, or as the changes leave it
-abbrev pub FindsPage : Space → Recording → List PlacedChange → ℕ → Page → ℕ → Type 0
-FindsPage start segment earlier event page address =
-    ((n : ℕ) × IsAllowedPrefix start segment (probe_at event address 0) n × (page_after start segment address n ≡ Some page))
+-- a touch that is made and answered at an event may find just this page at an address: as after so many entries of the segment, or as the changes leave it
+abbrev pub FindsAt : Space → Recording → List PlacedChange → ℕ → Page → ℕ → ℕ → Type 0
+FindsAt start segment earlier event page address n =
+    (IsAllowedPrefix start segment (probe_at event address 0) n × (page_after start segment address n ≡ Some page))
     ⊎ (EndsNowhere start segment address (Some page) event × IsLeftAt earlier address (Some page))
+
+-- as after some number of entries
+abbrev pub FindsPage : Space → Recording → List PlacedChange → ℕ → Page → ℕ → Type 0
+FindsPage start segment earlier event page address = (n : ℕ) × FindsAt start segment earlier event page address n
 
 -- the memory of a release has a frame of the page, and a touch may find this page there, or one of its place
 pub record LeadsSo (start : Space) (segment : Recording) (earlier : List PlacedChange) (release : Release) (page : Page) : Type 0 where
@@ -69,10 +73,14 @@ pub record LeadsSo (start : Space) (segment : Recording) (earlier : List PlacedC
   pub same : IsSamePlace page own
   pub finds : FindsPage start segment earlier release.made own (page.base + frame * 4096)
 
--- the page is so at or below an address
-abbrev pub LeadsBelow : Space → Recording → List PlacedChange → Release → ℕ → Page → Type 0
-LeadsBelow start segment earlier release address page =
-    (leads : LeadsSo start segment earlier release page) × (page.base + leads.frame * 4096 ≤ address)
+-- the page is so as after at most so many entries
+abbrev pub LeadsBy : Space → Recording → List PlacedChange → Release → Page → ℕ → Type 0
+LeadsBy start segment earlier release page places = (leads : LeadsSo start segment earlier release page) × (leads.finds.0 ≤ places)
+
+-- it is so at or below an address
+abbrev pub LeadsBelow : Space → Recording → List PlacedChange → Release → ℕ → Page → ℕ → Type 0
+LeadsBelow start segment earlier release address page places =
+    (leads : LeadsSo start segment earlier release page) × (page.base + leads.frame * 4096 ≤ address) × (leads.finds.0 ≤ places)
 
 -- some page of these is so
 abbrev pub SomeLeadsSo : Space → Recording → List PlacedChange → Release → List Seen → Type 0

@@ -6,13 +6,15 @@ use Rattle.nr_touch.specs.declared.changes.change.PlacedChange.{PlacedChange}
 use Rattle.nr_touch.specs.declared.releases.seen.Seen.{Seen}
 use Rattle.nr_touch.specs.declared.releases.stays.Stay.{Stay}
 
--- some stay of these is of the page's addresses and memory, and has the event
-abbrev pub HasStay : List Stay → Page → ℕ → Type 0
-HasStay stays page event = (stay : Stay) × Contains stays stay × IsSamePlace stay.page page × (stay.from ≤ event) × (event ≤ stay.until)
+-- some stay of these is of the page's addresses and memory, has the place of the log, and has the event
+abbrev pub HasStay : List Stay → Page → ℕ → ℕ → Type 0
+HasStay stays page place event = (stay : Stay) × Contains stays stay × IsSamePlace stay.page page × (stay.from ≤ event) × (event ≤ stay.until)
+    × (place ≤ stay.place)
 
 -- each page of these has a stay while it is alive
 abbrev pub HaveStays : List PlacedChange → List Seen → List Stay → Type 0
-HaveStays changes seen stays = (s : Seen) (event : ℕ) → Contains seen s → event < 2 ^ 32 → IsAlive changes s event → HasStay stays s.page event
+HaveStays changes seen stays = (s : Seen) (event : ℕ) → Contains seen s → event < 2 ^ 32 → IsAlive changes s event
+    → HasStay stays s.page s.place event
 
 -- each is of a page that has room
 abbrev pub AreRoomy : List Stay → Type 0

@@ -10,7 +10,7 @@ ghost use Rattle.nr_touch.specs.inside.Columns.{AreColumns, Covers, IsAhead, IsE
 
 use crate::changes::bounds::{lower, raise};
 use crate::changes::change::{PlacedChange, taken_at};
-use crate::changes::search::search;
+use crate::changes::search::{first_from, last_below, search};
 use crate::changes::sights::Sights;
 use std::alloc::Global;
 use vs_types::{Memory, Size};
@@ -133,14 +133,10 @@ impl History {
             (map at self.now.changes.items) column.now 0
             → IsPast self.now.changes.items (λ c. IsOf page c × (at c < event)) result }
     {
-        let behind = search(&self.pages, column, page, u64::from(event));
-        if behind == 0 {
-            return 0;
+        match last_below(&self.pages, column, page, u64::from(event)) {
+            Some(row) => self.places[row] + 1,
+            None => 0,
         }
-        if self.pages[behind - 1] != page {
-            return 0;
-        }
-        self.places[behind - 1] + 1
     }
 
     /// The fewest entries that have each change of a page that was answered before the event and ends that a page is found, or that none
@@ -162,14 +158,10 @@ impl History {
         requires { AreColumns self.now }
         ensures { IsAhead self.now.changes.items (λ c. IsOf page c × (event < c.made)) most result }
     {
-        let open = search(&self.pages, &self.made, page, u64::from(event) + 1);
-        if open == self.pages.len() {
-            return most;
+        match first_from(&self.pages, &self.made, page, u64::from(event) + 1) {
+            Some(row) => self.places[row],
+            None => most,
         }
-        if self.pages[open] != page {
-            return most;
-        }
-        self.places[open]
     }
 
     /// The first change of a page from a place on.
@@ -177,14 +169,8 @@ impl History {
         requires { AreColumns self.now }
         ensures { IsNext self.now.changes.items (IsOf page) place result }
     {
-        let next = search(&self.pages, &self.places, page, u64::from(place));
-        if next == self.pages.len() {
-            return None;
-        }
-        if self.pages[next] != page {
-            return None;
-        }
-        Some(self.changes[next])
+        let row = first_from(&self.pages, &self.places, page, u64::from(place))?;
+        Some(self.changes[row])
     }
 
     /// The latest event at which a change of a page was made that lies before the place, or 0 where there is none.
@@ -192,14 +178,10 @@ impl History {
         requires { AreColumns self.now }
         ensures { IsLatest self.now.changes.items page place result }
     {
-        let behind = search(&self.pages, &self.places, page, u64::from(place));
-        if behind == 0 {
-            return 0;
+        match last_below(&self.pages, &self.places, page, u64::from(place)) {
+            Some(row) => self.made[row],
+            None => 0,
         }
-        if self.pages[behind - 1] != page {
-            return 0;
-        }
-        self.made[behind - 1]
     }
 
     /// The earliest event at which a change of a page was answered that takes away, and lies at the place or behind it; or `u32::MAX`
@@ -208,14 +190,10 @@ impl History {
         requires { AreColumns self.now }
         ensures { IsEarliest self.now.changes.items page place result }
     {
-        let next = search(&self.pages, &self.places, page, u64::from(place));
-        if next == self.pages.len() {
-            return u32::MAX;
+        match first_from(&self.pages, &self.places, page, u64::from(place)) {
+            Some(row) => self.taken[row],
+            None => u32::MAX,
         }
-        if self.pages[next] != page {
-            return u32::MAX;
-        }
-        self.taken[next]
     }
 
     /// The fewest entries that have each change of how the address looks that was answered before the event and ends that a page is found

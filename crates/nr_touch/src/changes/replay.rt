@@ -1,16 +1,18 @@
 //! The replay of the log, which lists what changes.
 
 ghost use Rattle.std.specs.Prelude.{◌≡◌, ◌+◌, ◌≤◌, ◌^◌, ◌++◌, length, map, replicate, Contains, IfOk, IfSome, OnOk, Option};
+ghost use Rattle.std.specs.Option.{option_map};
 ghost use Rattle.std.specs.List.Sorted.{IsNonDecreasingBy};
 ghost use Rattle.vs_types.specs.Operation.{IsAction};
 ghost use Rattle.vs_types.specs.Page.{bytes_of};
 ghost use Rattle.vs_types.specs.Query.{IsQuery};
 ghost use Rattle.vs_types.specs.declared.depth.Depth.{Depth};
-ghost use Rattle.nr_trace.specs.Calls.{operation_in, operation_of};
+ghost use Rattle.nr_trace.specs.Calls.{operation_in, operation_of, reply_in};
 ghost use Rattle.nr_trace.specs.Laws.{HasCleanLog};
 ghost use Rattle.nr_trace.specs.Orders.{space_from};
 ghost use Rattle.nr_touch.specs.declared.changes.change.PlacedChange.{PlacedChange};
-ghost use Rattle.nr_touch.specs.inside.Changes.{AreChanges, AreReplies, listed};
+ghost use Rattle.nr_touch.specs.Replies.{AreReplies};
+ghost use Rattle.nr_touch.specs.inside.Changes.{AreChanges, listed};
 ghost use Rattle.nr_touch.specs.inside.Columns.{IsNumbered};
 ghost use Rattle.nr_touch.specs.inside.Undo.{LeadsTo};
 
@@ -53,23 +55,33 @@ fn no_replies(alloc: Global, rows: usize) -> Result<Vec<u32>, Memory>
     Ok(vec![in alloc; u32::MAX; rows]?)
 }
 
-/// By the index of each call the first event that answers it, or `u32::MAX` where there is none.
-pub(crate) fn replies(alloc: Global, trace: &Trace) -> Result<Vec<u32>, Memory>
-    ensures { IfOk result
-        (λ replies. AreReplies trace.now replies.items (length trace.now.events)) }
+/// The call that an event answers, if it is a reply.
+fn answered_in(event: Event) -> Option<u32>
+    ensures { result ≡ option_map (λ reply. reply.call) (reply_in event) }
+{
+    match event {
+        Event::Reply { call, .. } => Some(call),
+        Event::Call { .. } => None,
+        Event::Touch { .. } => None,
+        Event::Release { .. } => None,
+    }
+}
+
+/// By the index of each call the first event that answers it, or `u32::MAX` where there is none. Allocates four bytes for each event.
+///
+/// # Errors
+///
+/// `Memory` where a growth of memory was refused.
+pub fn replies(alloc: Global, trace: &Trace) -> Result<Vec<u32>, Memory>
+    ensures { IfOk result (λ replies. AreReplies trace.now replies.items) }
 {
     let events = trace.events();
     let mut replies = no_replies(alloc, events.len())?;
     for (index, event) in events.iter().enumerate() {
-        match event.event() {
-            Event::Call { .. } => {}
-            Event::Touch { .. } => {}
-            Event::Release { .. } => {}
-            Event::Reply { call, .. } => {
-                let call = call as usize;
-                if call < replies.len() {
-                    replies[call] = replies[call].min(index as u32);
-                }
+        if let Some(call) = answered_in(event.event()) {
+            let call = call as usize;
+            if call < replies.len() {
+                replies[call] = replies[call].min(index as u32);
             }
         }
     }

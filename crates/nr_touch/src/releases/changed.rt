@@ -1,7 +1,7 @@
 //! A release beside the pages that updates of its segment changed, or that updates of earlier segments may still have left: a search finds
 //! those that may be met.
 
-ghost use Rattle.std.specs.Prelude.{◌≡◌, ◌<◌, ◌≤◌, ◌^◌, length, slice_get, Contains, IfOk, IsTrue, Option, Some};
+ghost use Rattle.std.specs.Prelude.{◌≡◌, ℕ, ◌+◌, ◌<◌, ◌≤◌, ◌^◌, ◌⊎◌, if◌then◌else◌, false, length, max, slice_get, Contains, IfOk, IsTrue, OnOk, Option, Some};
 ghost use Rattle.vs_types.specs.Space.{Space};
 ghost use Rattle.vs_types.specs.declared.page.Page.{Page as PageRow};
 ghost use Rattle.nr_trace.specs.Orders.{space_from};
@@ -12,14 +12,16 @@ ghost use Rattle.nr_touch.specs.inside.Blocks.{IsBlockOf};
 ghost use Rattle.nr_touch.specs.inside.Columns.{AreColumns};
 ghost use Rattle.nr_touch.specs.inside.Earlier.{IsFollowed};
 ghost use Rattle.nr_touch.specs.inside.Met.{AreRows, HasSeen};
-ghost use Rattle.nr_touch.specs.inside.Reached.{IsRoomy, LeadsSo, LeadsThere};
+ghost use Rattle.nr_touch.specs.inside.Overs.{AreKnown, AreOver, IsSettled};
+ghost use Rattle.nr_touch.specs.inside.Reached.{IsRoomy, LeadsBy, LeadsSo, LeadsThere};
 ghost use Rattle.nr_touch.specs.inside.Stays.{AreRoomy, HasStay};
 ghost use Rattle.nr_touch.specs.inside.Levels.{left_in, IsLadder};
 
 use crate::changes::history::History;
 use crate::releases::block::{around, whole};
 use crate::releases::lives::Lives;
-use crate::releases::meeting::leads_there;
+use crate::releases::meeting::{is_settled, leads_there};
+use crate::releases::overs::Overs;
 use crate::releases::release::Release;
 use crate::releases::seen::seen_of;
 use crate::releases::stays::{Stay, stays_of};
@@ -38,7 +40,7 @@ pub(crate) struct Changed {
 
 impl Changed {
     /// Those of the pages that are there after the log, of so many places, and of the ones before each change of the segment, or left
-    /// before it. Allocates at most 336 bytes for each of them, of which 160 are freed.
+    /// before it. Allocates at most 344 bytes for each of them, of which 160 are freed.
     pub(crate) fn of(
         alloc: Global,
         history: &History,
@@ -103,8 +105,45 @@ fn leads_in_row(
     leads_there(history, earlier, space, places, release, stay.page)
 }
 
-/// Whether an access that begins with the release could reach its memory through a page that leads into this block then. It is
-/// compared with the pages that began to lead there by then and may still do so, from the last one back.
+/// Whether the page of a stay is over for the memory of the release, which it doesn't lead to now. The row is the index of the stay.
+fn is_row_over(
+    history: &History,
+    earlier: &[History],
+    stays: &[Stay],
+    release: &Release,
+    row: usize,
+) -> bool
+    requires own { AreColumns history.now }
+    requires earlier { IsLadder earlier.now }
+    requires roomy { AreRoomy stays.now }
+    requires memory { IsMemory release.now.size release.now.phys }
+    ensures { IsTrue result → (stay : StayRow) → slice_get stays.now row ≡ Some stay
+        → (stay.until < release.now.made)
+        ⊎ IsSettled history.now.changes.items release.now stay.page stay.place }
+{
+    let many = stays.len();
+    if row >= many {
+        return true;
+    }
+    let stay = stays[row];
+    let until = stay.until;
+    let made = release.made;
+    if until < made {
+        return true;
+    }
+    is_settled(history, earlier, release, stay.page, stay.place)
+}
+
+/// How many of the first rows are over, where those from this end on are, up to so many, and the last one before it is, or isn't.
+fn over_with(over: usize, last: usize, end: usize, is_over: bool) -> usize
+    ensures { result ≡ (if is_over then max over end else last) }
+{
+    if is_over { over.max(end) } else { last }
+}
+
+/// Whether an access that begins with the release could reach its memory through a page that leads into this block then; and how many of
+/// the first rows are over for it, if they are of this block. So many were before. It is compared with the pages of the others that began
+/// to lead there by then and may still do so, from the last one back.
 fn leads_in_rows(
     history: &History,
     earlier: &[History],
@@ -113,32 +152,41 @@ fn leads_in_rows(
     changed: &Changed,
     release: &Release,
     block: u64,
-) -> bool
+    before: usize,
+) -> (bool, usize)
     requires own { AreColumns history.now }
     requires earlier { IsLadder earlier.now }
     requires rows { AreRows changed.now }
     requires memory { IsMemory release.now.size release.now.phys }
-    ensures sound { (before : Option Run) (start : Space) (segment : Recording)
-        → IsFollowed before start segment history.now earlier.now
+    ensures sound { (run : Option Run) (start : Space) (segment : Recording)
+        → IsFollowed run start segment history.now earlier.now
         → space.now.space ≡ space_from start segment segment.log → places ≡ length segment.log
-        → IsTrue result → (page : PageRow) × LeadsThere before start segment release.now page }
-    ensures whole { (before : Option Run) (start : Space) (segment : Recording) (stay : StayRow)
-        → IsFollowed before start segment history.now earlier.now
+        → IsTrue result.0 → (page : PageRow) × LeadsThere run start segment release.now page }
+    ensures whole { (run : Option Run) (start : Space) (segment : Recording) (stay : StayRow)
+        → IsFollowed run start segment history.now earlier.now
         → space.now.space ≡ space_from start segment segment.log → places ≡ length segment.log
+        → AreOver start segment (left_in earlier.now) changed.now release.now block 0 before
         → Contains changed.now.stays.items stay → IsBlockOf stay.page block
         → stay.from ≤ release.now.made → release.now.made ≤ stay.until
-        → LeadsSo start segment (left_in earlier.now) release.now stay.page → IsTrue result }
-    ensures in_range { release.now.made < 2 ^ 32 }
+        → LeadsBy start segment (left_in earlier.now) release.now stay.page stay.place
+        → IsTrue result.0 }
+    ensures over { (run : Option Run) (start : Space) (segment : Recording)
+        → IsFollowed run start segment history.now earlier.now
+        → space.now.space ≡ space_from start segment segment.log → places ≡ length segment.log
+        → AreOver start segment (left_in earlier.now) changed.now release.now block 0 before
+        → result.0 ≡ false
+        → AreOver start segment (left_in earlier.now) changed.now release.now block 0 result.1 }
 {
     let lives = &changed.lives;
     let stretches = &changed.stretches;
     let made = release.made;
     let mut end = lives.begun(block, made);
-    while end > 0 {
+    let mut over = before;
+    while end > before {
         let last = end - 1;
         let own = lives.blocks[last];
         if own != block {
-            return false;
+            return (false, over);
         }
         let until = stretches.until[last];
         if until < made {
@@ -154,52 +202,123 @@ fn leads_in_rows(
                 release,
                 row,
             ) {
-                return true;
+                return (true, over);
             }
+            let is_over = is_row_over(history, earlier, &changed.stays, release, row);
+            over = over_with(over, last, end, is_over);
             end = last;
         }
     }
-    false
+    (false, over)
+}
+
+/// Whether an access that begins with the release could reach its memory through a page that leads into this block then. Allocates memory
+/// for what it notes where it was compared in vain.
+fn leads_in_block(
+    history: &History,
+    earlier: &[History],
+    space: &PlainSpace,
+    places: u32,
+    changed: &Changed,
+    overs: &mut Overs,
+    release: &Release,
+    block: u64,
+) -> Result<bool, Memory>
+    requires own { AreColumns history.now }
+    requires earlier { IsLadder earlier.now }
+    requires rows { AreRows changed.now }
+    requires memory { IsMemory release.now.size release.now.phys }
+    ensures sound { (run : Option Run) (start : Space) (segment : Recording)
+        → IsFollowed run start segment history.now earlier.now
+        → space.now.space ≡ space_from start segment segment.log → places ≡ length segment.log
+        → IfOk result (λ leads. IsTrue leads
+        → (page : PageRow) × LeadsThere run start segment release.now page) }
+    ensures whole { (run : Option Run) (start : Space) (segment : Recording) (stay : StayRow)
+        → IsFollowed run start segment history.now earlier.now
+        → space.now.space ≡ space_from start segment segment.log → places ≡ length segment.log
+        → AreKnown start segment (left_in earlier.now) changed.now overs.old
+        → Contains changed.now.stays.items stay → IsBlockOf stay.page block
+        → stay.from ≤ release.now.made → release.now.made ≤ stay.until
+        → LeadsBy start segment (left_in earlier.now) release.now stay.page stay.place
+        → IfOk result (λ leads. IsTrue leads) }
+    ensures known { (run : Option Run) (start : Space) (segment : Recording)
+        → IsFollowed run start segment history.now earlier.now
+        → space.now.space ≡ space_from start segment segment.log → places ≡ length segment.log
+        → AreKnown start segment (left_in earlier.now) changed.now overs.old
+        → OnOk result (AreKnown start segment (left_in earlier.now) changed.now overs.new) }
+{
+    let before = overs.rows(release, block);
+    let (leads, over) = leads_in_rows(
+        history, earlier, space, places, changed, release, block, before,
+    );
+    if leads {
+        return Ok(true);
+    }
+    if over <= before {
+        return Ok(false);
+    }
+    overs.note(release, block, over)?;
+    Ok(false)
 }
 
 /// Whether an access that begins with the release could reach its memory through one of the pages, as they were before changes or are
-/// after the log: four searches, and the pages that they find.
+/// after the log: four searches, and the pages that they find, but for those that are known to be over. Allocates memory for what it notes.
 pub(crate) fn leads_by_changes(
     history: &History,
     earlier: &[History],
     space: &PlainSpace,
     places: u32,
     changed: &Changed,
+    overs: &mut Overs,
     release: &Release,
-) -> bool
+) -> Result<bool, Memory>
     requires own { AreColumns history.now }
     requires earlier { IsLadder earlier.now }
     requires rows { AreRows changed.now }
     requires memory { IsMemory release.now.size release.now.phys }
-    ensures sound { (before : Option Run) (start : Space) (segment : Recording)
-        → IsFollowed before start segment history.now earlier.now
+    ensures sound { (run : Option Run) (start : Space) (segment : Recording)
+        → IsFollowed run start segment history.now earlier.now
         → space.now.space ≡ space_from start segment segment.log → places ≡ length segment.log
-        → IsTrue result → (page : PageRow) × LeadsThere before start segment release.now page }
-    ensures whole { (before : Option Run) (start : Space) (segment : Recording) (page : PageRow)
-        → IsFollowed before start segment history.now earlier.now
+        → IfOk result (λ leads. IsTrue leads
+        → (page : PageRow) × LeadsThere run start segment release.now page) }
+    ensures whole { (run : Option Run) (start : Space) (segment : Recording) (page : PageRow)
+        (place : ℕ) → IsFollowed run start segment history.now earlier.now
         → space.now.space ≡ space_from start segment segment.log → places ≡ length segment.log
-        → HasStay changed.now.stays.items page release.now.made
-        → LeadsSo start segment (left_in earlier.now) release.now page → IsTrue result }
-    ensures in_range { release.now.made < 2 ^ 32 }
+        → AreKnown start segment (left_in earlier.now) changed.now overs.old
+        → HasStay changed.now.stays.items page place release.now.made
+        → LeadsBy start segment (left_in earlier.now) release.now page place
+        → IfOk result (λ leads. IsTrue leads) }
+    ensures known { (run : Option Run) (start : Space) (segment : Recording)
+        → IsFollowed run start segment history.now earlier.now
+        → space.now.space ≡ space_from start segment segment.log → places ≡ length segment.log
+        → AreKnown start segment (left_in earlier.now) changed.now overs.old
+        → OnOk result (AreKnown start segment (left_in earlier.now) changed.now overs.new) }
 {
     let phys = release.phys;
     let own = around(phys, release.size);
-    if leads_in_rows(history, earlier, space, places, changed, release, own) {
-        return true;
+    let by_own = leads_in_block(
+        history, earlier, space, places, changed, overs, release, own,
+    )?;
+    if by_own {
+        return Ok(true);
     }
     let small = whole(phys, Size::K4);
-    if leads_in_rows(history, earlier, space, places, changed, release, small) {
-        return true;
+    let by_small = leads_in_block(
+        history, earlier, space, places, changed, overs, release, small,
+    )?;
+    if by_small {
+        return Ok(true);
     }
     let large = whole(phys, Size::M2);
-    if leads_in_rows(history, earlier, space, places, changed, release, large) {
-        return true;
+    let by_large = leads_in_block(
+        history, earlier, space, places, changed, overs, release, large,
+    )?;
+    if by_large {
+        return Ok(true);
     }
     let huge = whole(phys, Size::G1);
-    leads_in_rows(history, earlier, space, places, changed, release, huge)
+    let by_huge = leads_in_block(
+        history, earlier, space, places, changed, overs, release, huge,
+    )?;
+    Ok(by_huge)
 }

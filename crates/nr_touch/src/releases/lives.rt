@@ -7,7 +7,7 @@ ghost use Rattle.nr_touch.specs.inside.Bounds.{IsBoundary, IsRising};
 ghost use Rattle.nr_touch.specs.inside.Lives.{lives_at, AreColumnsOf, AreLives, AreRowsOf, HaveLives, HaveRows, IsMet};
 
 use crate::changes::bounds::raise;
-use crate::changes::search::search;
+use crate::changes::search::{last_below, search};
 use crate::releases::block::{around, whole};
 use crate::releases::stays::Stay;
 use std::alloc::Global;
@@ -187,15 +187,10 @@ impl Lives {
         ensures meets { IsTrue result ↔ IsMet self.now block first last }
         ensures in_range { last < 2 ^ 32 }
     {
-        let end = search(&self.blocks, &self.from, block, u64::from(last) + 1);
-        if end == 0 {
+        let Some(row) = last_below(&self.blocks, &self.from, block, u64::from(last) + 1) else {
             return false;
-        }
-        if self.blocks[end - 1] != block {
-            return false;
-        }
-        let until = self.until[end - 1];
-        if until < first {
+        };
+        if self.until[row] < first {
             return false;
         }
         true

@@ -12,6 +12,7 @@ ghost use Rattle.nr_touch.specs.inside.Columns.{AreColumns};
 ghost use Rattle.nr_touch.specs.inside.Earlier.{IsFollowed};
 ghost use Rattle.nr_touch.specs.inside.Reached.{probe_at, FindsFrame, IsMetAt, IsRoomy, LeadsSo, LeadsThere};
 ghost use Rattle.nr_touch.specs.inside.Levels.{left_in, IsLadder};
+ghost use Rattle.nr_touch.specs.inside.Overs.{IsSettled};
 
 use crate::changes::history::History;
 use crate::releases::release::Release;
@@ -214,4 +215,32 @@ pub(crate) fn frame_address(page: Page, frame: u64) -> u64
 {
     let offset = frame * 4096;
     page.base + offset
+}
+
+/// Whether each change before the place was made by the release, of the addresses at which the page has its memory. It is compared in a
+/// frame of each stretch between pages that changes are of.
+pub(crate) fn is_settled(
+    history: &History,
+    earlier: &[History],
+    release: &Release,
+    page: Page,
+    place: u32,
+) -> bool
+    requires own { AreColumns history.now }
+    requires earlier { IsLadder earlier.now }
+    requires page { IsRoomy page }
+    requires memory { IsMemory release.now.size release.now.phys }
+    ensures { IsTrue result → IsSettled history.now.changes.items release.now page place }
+{
+    let made = release.made;
+    let mut next = first_frame(release, page);
+    let end = end_frame(release, page);
+    while next < end {
+        let address = frame_address(page, next);
+        if history.last_allowed(address, made, place) < place {
+            return false;
+        }
+        next = next_frame(history, earlier, page, next);
+    }
+    true
 }

@@ -1,12 +1,12 @@
 //! The search for the first release of memory that can be reached.
 
-ghost use Rattle.std.specs.Prelude.{◌≡◌, ◌↔◌, ◌<◌, length, Contains, IfOk, IfSome, IsTrue, List, None, Option};
+ghost use Rattle.std.specs.Prelude.{◌≡◌, ◌↔◌, ◌<◌, length, Contains, IfOk, IfSome, IsTrue, List, None, OnOk, Option};
 ghost use Rattle.vs_types.specs.Space.{Space, pages};
 ghost use Rattle.nr_trace.specs.Laws.{HasCleanLog};
 ghost use Rattle.nr_trace.specs.Orders.{space_from};
 ghost use Rattle.nr_trace.specs.Recording.{IsMemory, Recording};
 ghost use Rattle.nr_joined.specs.Run.{Run};
-ghost use Rattle.nr_touch.specs.Releases.{AreMemory, FindsReachable, FindsReached, IsReachable, IsWrongRelease};
+ghost use Rattle.nr_touch.specs.Releases.{AreMemory, FindsReachable, FindsReached, IsWrongRelease};
 ghost use Rattle.nr_touch.specs.Tails.{GoesOn, AreSound, IsTailOf};
 ghost use Rattle.nr_touch.specs.declared.changes.change.PlacedChange.{PlacedChange as PlacedRow};
 ghost use Rattle.nr_touch.specs.declared.releases.seen.Seen.{Seen as SeenRow};
@@ -14,6 +14,7 @@ ghost use Rattle.nr_touch.specs.inside.Columns.{AreColumns};
 ghost use Rattle.nr_touch.specs.inside.Earlier.{IsFollowed};
 ghost use Rattle.nr_touch.specs.inside.Indexed.{HasPages, HasStayed, HavePresent, HaveQuiet};
 ghost use Rattle.nr_touch.specs.inside.Met.{IsMetBy};
+ghost use Rattle.nr_touch.specs.inside.Overs.{AreKnown};
 ghost use Rattle.nr_touch.specs.inside.Reached.{AreSeen, FindsAddress, IsLower, IsRoomy};
 ghost use Rattle.nr_touch.specs.inside.Levels.{left_in, IsLadder};
 
@@ -23,6 +24,7 @@ use crate::changes::replay::replay;
 use crate::releases::changed::{Changed, leads_by_changes};
 use crate::releases::index::{Index, changed_now};
 use crate::releases::meeting::{event_fits, frame_address, frame_there};
+use crate::releases::overs::Overs;
 use crate::releases::quiet::leads_by_index;
 use crate::releases::release::Release;
 use crate::releases::seen::{Seen, seen_of};
@@ -40,68 +42,64 @@ pub(crate) struct Reach {
     changed: Changed,
 }
 
-/// Whether an access that begins with the release could reach its memory.
-fn is_reachable(
-    history: &History,
-    earlier: &[History],
-    space: &PlainSpace,
-    places: u32,
-    reach: &Reach,
-    release: &Release,
-) -> bool
-    requires own { AreColumns history.now }
-    requires earlier { IsLadder earlier.now }
-    requires met { IsMetBy history.now.changes.items (left_in earlier.now) space.now.space
-        places reach.now.changed }
-    requires memory { IsMemory release.now.size release.now.phys }
-    ensures { (before : Option Run) (start : Space) (segment : Recording)
-        → IsFollowed before start segment history.now earlier.now
-        → space.now.space ≡ space_from start segment segment.log → places ≡ length segment.log
-        → HaveQuiet history.now.changes.items space.now.space reach.now.quiet
-        → IsTrue result ↔ IsReachable before start segment release.now }
-{
-    pages_are_a_space(space);
-    if leads_by_index(history, earlier, space, places, &reach.quiet, release) {
-        return true;
-    }
-    leads_by_changes(history, earlier, space, places, &reach.changed, release)
-}
-
-/// Whether the release is wrong: its memory could be reached, or it is answered otherwise than by `Done`.
+/// Whether the release is wrong: it is answered otherwise than by `Done`, or an access that begins with it could reach its memory. Allocates
+/// memory for what it notes.
 fn is_wrong(
     history: &History,
     earlier: &[History],
     space: &PlainSpace,
     places: u32,
     reach: &Reach,
+    overs: &mut Overs,
     release: &Release,
-) -> bool
+) -> Result<bool, Memory>
     requires own { AreColumns history.now }
     requires earlier { IsLadder earlier.now }
     requires met { IsMetBy history.now.changes.items (left_in earlier.now) space.now.space
         places reach.now.changed }
     requires memory { IsMemory release.now.size release.now.phys }
-    ensures { (before : Option Run) (start : Space) (segment : Recording)
+    ensures wrong { (before : Option Run) (start : Space) (segment : Recording)
         → IsFollowed before start segment history.now earlier.now
         → space.now.space ≡ space_from start segment segment.log → places ≡ length segment.log
         → HaveQuiet history.now.changes.items space.now.space reach.now.quiet
-        → IsTrue result ↔ IsWrongRelease before start segment release.now }
+        → AreKnown start segment (left_in earlier.now) reach.now.changed overs.old
+        → IfOk result (λ wrong. IsTrue wrong ↔ IsWrongRelease before start segment release.now) }
+    ensures known { (before : Option Run) (start : Space) (segment : Recording)
+        → IsFollowed before start segment history.now earlier.now
+        → space.now.space ≡ space_from start segment segment.log → places ≡ length segment.log
+        → AreKnown start segment (left_in earlier.now) reach.now.changed overs.old
+        → OnOk result (AreKnown start segment (left_in earlier.now) reach.now.changed overs.new) }
 {
-    if release.is_done {
-        return is_reachable(history, earlier, space, places, reach, release);
+    if !release.is_done {
+        return Ok(true);
     }
-    true
+    pages_are_a_space(space);
+    event_fits(release.made);
+    if leads_by_index(history, earlier, space, places, &reach.quiet, release) {
+        return Ok(true);
+    }
+    let by_changes = leads_by_changes(
+        history,
+        earlier,
+        space,
+        places,
+        &reach.changed,
+        overs,
+        release,
+    )?;
+    Ok(by_changes)
 }
 
-/// The index of the first wrong release, or `None`.
+/// The index of the first wrong release, or `None`. Allocates memory for what releases are compared with in vain.
 fn first_wrong(
+    alloc: Global,
     history: &History,
     earlier: &[History],
     space: &PlainSpace,
     places: u32,
     reach: &Reach,
     releases: &[Release],
-) -> Option<usize>
+) -> Result<Option<usize>, Memory>
     requires own { AreColumns history.now }
     requires earlier { IsLadder earlier.now }
     requires met { IsMetBy history.now.changes.items (left_in earlier.now) space.now.space
@@ -111,15 +109,18 @@ fn first_wrong(
         → IsFollowed before start segment history.now earlier.now
         → space.now.space ≡ space_from start segment segment.log → places ≡ length segment.log
         → HaveQuiet history.now.changes.items space.now.space reach.now.quiet
-        → FindsReachable before start segment releases.now result }
-    ensures within { IfSome result (λ index. index < length releases.now) }
+        → IfOk result (FindsReachable before start segment releases.now) }
+    ensures within { IfOk result
+        (λ found. IfSome found (λ index. index < length releases.now)) }
 {
+    let mut overs = Overs::none(alloc);
     for (index, release) in releases.iter().enumerate() {
-        if is_wrong(history, earlier, space, places, reach, release) {
-            return Some(index);
+        let wrong = is_wrong(history, earlier, space, places, reach, &mut overs, release)?;
+        if wrong {
+            return Ok(Some(index));
         }
     }
-    None
+    Ok(None)
 }
 
 /// The index; where none was built yet, one of the pages of the space. Allocates four rows for each page where it builds one.
@@ -184,8 +185,9 @@ fn index_after(
 /// The index of the first wrong release, or `None`; and the index of the pages after the segment.
 ///
 /// Where there are no releases, nothing is built for them, and an index that was built before is kept up to date. Allocates four rows for
-/// each page of the space where there is no index yet, and for each page that the segment changed; and 336 bytes for each change of the
-/// segment and of what was left before it, and for each page that the segment changed.
+/// each page of the space where there is no index yet, and for each page that the segment changed; and 344 bytes for each change of the
+/// segment and of what was left before it, and for each page that the segment changed; and at most four rows of 48 bytes
+/// for each release.
 pub(crate) fn first_reachable(
     alloc: Global,
     history: &History,
@@ -221,7 +223,7 @@ pub(crate) fn first_reachable(
     let quiet = quiet_of(alloc, index, changes, space)?;
     let changed = Changed::of(alloc, history, earlier, &present, places)?;
     let reach = Reach { quiet, changed };
-    let found = first_wrong(history, earlier, space, places, &reach, releases);
+    let found = first_wrong(alloc, history, earlier, space, places, &reach, releases)?;
     let Reach { quiet, .. } = reach;
     let index = noted(quiet, &present)?;
     Ok((found, Some(index)))

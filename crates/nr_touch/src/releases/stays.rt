@@ -19,6 +19,8 @@ use vs_types::{Memory, Page};
 #[derive(Clone, Copy, Debug)]
 pub(crate) struct Stay {
     pub(crate) page: Page,
+    /// The most entries of the log after which it is there so.
+    pub(crate) place: u32,
     pub(crate) from: u32,
     pub(crate) until: u32,
 }
@@ -69,11 +71,13 @@ impl Stay {
     /// One stay that has the events of both.
     fn with(&self, other: &Stay) -> Stay
         ensures page { result.page ≡ self.now.page }
+        ensures places { (self.now.place ≤ result.place) × (other.now.place ≤ result.place) }
         ensures own { (result.from ≤ self.now.from) × (self.now.until ≤ result.until) }
         ensures other { (result.from ≤ other.now.from) × (other.now.until ≤ result.until) }
     {
         Stay {
             page: self.page,
+            place: self.place.max(other.place),
             from: self.from.min(other.from),
             until: self.until.max(other.until),
         }
@@ -82,8 +86,9 @@ impl Stay {
 
 /// Adds a stay at the end. If it meets the last one, the two become one. A stay that ends before it begins is left out.
 fn put(stays: &mut Vec<Stay>, stay: Stay) -> Result<(), Memory>
-    ensures kept { OnOk result ((page : PageRow) (event : ℕ)
-        → HasStay (stays.old.items ++ stay ∷ []) page event → HasStay stays.new.items page event) }
+    ensures kept { OnOk result ((page : PageRow) (place event : ℕ)
+        → HasStay (stays.old.items ++ stay ∷ []) page place event
+        → HasStay stays.new.items page place event) }
     ensures roomy { OnOk result (AreRoomy stays.old.items → IsRoomy stay.page
         → AreRoomy stays.new.items) }
 {
@@ -121,12 +126,21 @@ fn listed(alloc: Global, history: &History, seen: &[Seen]) -> Result<Vec<Stay>, 
     for each in seen {
         let (from, until) = span(history, each);
         let page = each.page;
-        put(&mut stays, Stay { page, from, until })?;
+        let place = each.place;
+        put(
+            &mut stays,
+            Stay {
+                page,
+                place,
+                from,
+                until,
+            },
+        )?;
     }
     Ok(stays)
 }
 
-/// The stays of the pages. Allocates 32 bytes for each page, and while it sorts a copy of them.
+/// The stays of the pages. Allocates 40 bytes for each page, and while it sorts a copy of them.
 pub(crate) fn stays_of(
     alloc: Global,
     history: &History,

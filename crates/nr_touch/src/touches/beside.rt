@@ -6,7 +6,8 @@ ghost use Rattle.nr_trace.specs.Laws.{HasCleanLog};
 ghost use Rattle.nr_trace.specs.Orders.{space_from};
 ghost use Rattle.nr_touch.specs.Beside.{beside, is_beside, touched};
 ghost use Rattle.nr_touch.specs.declared.changes.change.PlacedChange.{PlacedChange};
-ghost use Rattle.nr_touch.specs.inside.Changes.{AreChanges, AreReplies};
+ghost use Rattle.nr_touch.specs.Replies.{AreReplies};
+ghost use Rattle.nr_touch.specs.inside.Changes.{AreChanges};
 ghost use Rattle.nr_touch.specs.inside.Columns.{IsNumbered};
 ghost use Rattle.nr_touch.specs.inside.Lives.{opening_of, AreLives, AreOpenings, IsOpenWithin};
 
@@ -83,7 +84,7 @@ fn touched(trace: &Trace, call: u32) -> Option<u64>
 /// Whether the call of this number is an answered touch that was open while an update of its page was.
 fn is_beside(trace: &Trace, replies: &[u32], updates: &Lives, call: u32) -> bool
     requires few { length trace.now.events < 2 ^ 32 }
-    requires replies { AreReplies trace.now replies.now (length trace.now.events) }
+    requires replies { AreReplies trace.now replies.now }
     requires lives { AreLives updates.now }
     ensures { (start : Space) (changes : List PlacedChange) → HasCleanLog trace.now
         → AreChanges start trace.now changes

@@ -279,8 +279,8 @@ pub struct Followed {
 /// changes, or all of it where there are releases; and not for the pages of the start: the updates of the log are done on it, and then
 /// undone. Only the first segment with releases lists all pages, in an index that the tail keeps from then on: four rows of 16 bytes for
 /// each page. Allocates a table of four bytes for each event, 160 bytes for each update that changes the space, and 216 bytes for each
-/// change of the tail that is merged; where there are releases at most 336 bytes more for each change of the segment and of the tail, and
-/// for each page that they changed.
+/// change of the tail that is merged; where there are releases at most 344 bytes more for each change of the segment and of the tail, and
+/// for each page that they changed, and four rows of 48 bytes for each release.
 ///
 /// # Errors
 ///

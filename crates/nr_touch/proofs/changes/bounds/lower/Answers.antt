@@ -1,5 +1,4 @@
 use Rattle.std.proofs.Common.{◌≡◌, ◌≢◌, ℕ, ◌-◌, ◌+◌, ◌<◌, inl, inr, get_or, length, sym, ap, ◌∙◌, subst, arith}
-use Rattle.std.proofs.lemmas.Bool.{cases_lt}
 use Rattle.std.proofs.lemmas.List.{get_or-set_same, get_or-set_other}
 use Rattle.nr_touch.specs.inside.Bounds.{IsLowered}
 use Rattle.nr_touch.proofs.Raised.{lowered_more}
@@ -16,6 +15,7 @@ loop-passed-preserved c =
     let test = c.loop-passed-test.true in
     let many = c.loop-passed.auto.bounds in
     let within : i < length b = omega (arith, test, many) in
+    let more : i + 1 < length old = let some = c.loop-passed.auto.passed in omega (arith, test, some) in
     let next : length old - c.loop-passed.passed ≡ i + 1 = omega (arith, test) in
     let here : length old - (c.loop-passed.passed + 1) ≡ i = omega (arith, test) in
     let begin : IsLowered c.args.pages.now old b (i + 1) = subst (IsLowered c.args.pages.now old b) next inv.lowered in
@@ -25,26 +25,18 @@ loop-passed-preserved c =
           let same : (k : ℕ) → k ≢ i → get_or new k 0 ≡ get_or b k 0 =
           λ k other. ap (λ xs. get_or xs k 0) w.bounds-is ∙ get_or-set_other b i k w.min.result 0 other in
           let value : get_or new i 0 ≡ w.min.result = ap (λ xs. get_or xs i 0) w.bounds-is ∙ get_or-set_same b i w.min.result 0 within in
-          let some = c.loop-passed.auto.passed in
           record {
             lowered = subst (IsLowered c.args.pages.now old new) (sym here)
-                (lowered_more c.args.pages.now old b new i begin c.if-pages-index.auto.bounds same
-                (omega (arith, value, before, w.min.ensures))
-                (λ page. omega (arith, value, w.min.ensures))
-                (elim (cases_lt (get_or b (i + 1) 0) (get_or b i 0)) [
-                  | inl less ↦ inr (omega (arith, test, some), w.if-pages-index.true, omega (arith, value, w.min.ensures, less))
-                  | inr least ↦ inl (omega (arith, value, before, w.min.ensures, least))
-                ]));
+                (lowered_more c.args.pages.now old b new i more begin c.if-pages-index.auto.bounds same
+                (inl (w.if-pages-index.true, omega (arith, value, before, w.min.ensures))));
             left = λ k l. same k (λ e. omega (arith, e, l, here)) ∙ inv.left k (omega (arith, l, here, next));
           }
       | else-pages-index w ↦
           let same : (k : ℕ) → get_or new k 0 ≡ get_or b k 0 = λ k. ap (λ xs. get_or xs k 0) w.bounds-is in
           record {
             lowered = subst (IsLowered c.args.pages.now old new) (sym here)
-                (lowered_more c.args.pages.now old b new i begin c.if-pages-index.auto.bounds (λ k other. same k)
-                (let is = same i in omega (arith, is, before))
-                (λ page. absurd (w.if-pages-index.false page))
-                (inl (same i ∙ before)));
+                (lowered_more c.args.pages.now old b new i more begin c.if-pages-index.auto.bounds (λ k other. same k)
+                (inr (w.if-pages-index.false, same i ∙ before)));
             left = λ k l. same k ∙ inv.left k (omega (arith, l, here, next));
           }
     ]

@@ -1,5 +1,4 @@
-use Rattle.std.proofs.Common.{◌≡◌, ◌≢◌, ℕ, ◌-◌, ◌<◌, inl, inr, get_or, length, ap, ◌∙◌, arith}
-use Rattle.std.proofs.lemmas.Bool.{cases_lt}
+use Rattle.std.proofs.Common.{◌≡◌, ◌≢◌, ℕ, ◌<◌, inl, inr, get_or, length, ap, ◌∙◌, arith}
 use Rattle.std.proofs.lemmas.List.{get_or-set_same, get_or-set_other}
 use Rattle.nr_touch.proofs.Raised.{raised_more}
 use Rattle.nr_touch.proofs.changes.bounds.raise.Goals as goal
@@ -21,21 +20,14 @@ loop-index-preserved c =
           let value : get_or new i 0 ≡ w.max.result = ap (λ xs. get_or xs i 0) w.bounds-is ∙ get_or-set_same b i w.max.result 0 within in
           record {
             raised = raised_more c.args.pages.now c.args.bounds.now b new i (omega (arith, some)) inv.raised c.if-pages-index.auto.bounds same
-                (omega (arith, value, before, w.max.ensures))
-                (λ page. omega (arith, value, w.max.ensures))
-                (elim (cases_lt (get_or b i 0) (get_or b (i - 1) 0)) [
-                  | inl less ↦ inr (w.if-pages-index.true, omega (arith, value, w.max.ensures, less))
-                  | inr least ↦ inl (omega (arith, value, before, w.max.ensures, least))
-                ]);
+                (inl (w.if-pages-index.true, omega (arith, value, before, w.max.ensures)));
             left = λ k l. same k (λ e. omega (arith, e, l)) ∙ inv.left k (omega (arith, l));
           }
       | else-pages-index w ↦
           let same : (k : ℕ) → get_or new k 0 ≡ get_or b k 0 = λ k. ap (λ xs. get_or xs k 0) w.bounds-is in
           record {
             raised = raised_more c.args.pages.now c.args.bounds.now b new i (omega (arith, some)) inv.raised c.if-pages-index.auto.bounds (λ k other. same k)
-                (let is = same i in omega (arith, is, before))
-                (λ page. absurd (w.if-pages-index.false page))
-                (inl (same i ∙ before));
+                (inr (w.if-pages-index.false, same i ∙ before));
             left = λ k l. same k ∙ inv.left k (omega (arith, l));
           }
     ]

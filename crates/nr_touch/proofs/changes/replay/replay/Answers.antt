@@ -1,20 +1,14 @@
-use Rattle.std.proofs.Common.{◌≡◌, ℕ, ◌+◌, ◌<◌, ◌^◌, ◌↔◌, List, length, map, get_or, take, Contains, Some, None, IsSome, refl, sym, ap, ◌∙◌, subst, arith}
+use Rattle.std.proofs.Common.{◌≡◌, ℕ, ◌+◌, ◌<◌, ◌^◌, ◌↔◌, length, get_or, take, Some, None, IsSome, refl, sym, ap, ◌∙◌, subst, arith}
 use Rattle.std.proofs.Math.Seq.{take-length}
 use Rattle.std.proofs.lemmas.List.{get_or_read}
-use Rattle.std.specs.List.Sorted.{IsNonDecreasingBy}
 use Rattle.vs_types.specs.Step.{step}
 use Rattle.nr_trace.specs.Calls.{Answers, operation_of}
 use Rattle.nr_trace.specs.Orders.{space_from}
 use Rattle.nr_trace.proofs.LawsOfCalls.{the_some, call_within, placed_is_update, update_is_call}
-use Rattle.vs_types.specs.declared.depth.Depth.{Depth}
 use Rattle.vs_types.specs.declared.limits.TheConstants.{LOG_PLACES}
-use Rattle.std.specs.Prelude.{option_to_list}
 use Rattle.nr_trace.proofs.LawsOfSteps.{space_next}
 use Rattle.nr_touch.specs.inside.Changes.{AreChangesBelow, IsChange}
-use Rattle.nr_touch.specs.inside.Columns.{IsNumbered}
-use Rattle.nr_touch.specs.declared.changes.change.PlacedChange.{PlacedChange}
-use Rattle.nr_touch.specs.inside.Undo.{LeadsTo}
-use Rattle.nr_touch.proofs.Replayed.{change_fits, none_listed, none_rise, listed_more, listed_rises, read_log, replied}
+use Rattle.nr_touch.proofs.Replayed.{change_fits, none_listed, none_rise, listed_more, listed_rises, read_log}
 use Rattle.nr_touch.proofs.Undone.{listed_leads, listed_numbered}
 use Rattle.nr_touch.proofs.changes.replay.replay.Goals as goal
 
@@ -24,8 +18,7 @@ loop-place-init c =
     record {
       depth = c.requires.depth;
       limit = c.requires.limit;
-      leads = subst (λ (cs : List PlacedChange). LeadsTo c.args.start.depth c.args.start.space (map (λ (each : PlacedChange). each.change) cs) c.args.start.space)
-          (sym none) refl;
+      leads = rw none refl;
       numbered = λ change (k, l, at). absurd (let empty = ap length none in omega (arith, l, empty));
       rising = none_rise c.new-changes.result.items none;
       clean = λ clean. record {
@@ -91,24 +84,19 @@ loop-place-preserved c =
     let within : call < length replies = let many = known.one_each in omega (arith, is_call, many) in
     let read = get_or_read replies call c.index.result.now within c.index.ensures 0 in
     let told : (event : ℕ) → event < 2 ^ 32 → (c.index.result.now < event) ↔ ((reply : ℕ) × (reply < event) × Answers trace reply call) =
-    subst (λ n. (event : ℕ) → event < 2 ^ 32 → (n < event) ↔ ((reply : ℕ) × (reply < event) × Answers trace reply call)) (sym read)
-    (replied trace replies call known within) in
+    rw read (λ event fits. known.first call event within fits) in
     let few : place < LOG_PLACES =
     (let most = c.log-call-items.ensures.in_range.few_places in let same = ap length c.log-call-items.ensures.reads in
     omega (arith, c.loop-place-test.true, most, same)) in
     record {
       depth = ap (λ s. s.depth) stepped ∙ inv.depth;
       limit = ap (λ s. s.limit) stepped ∙ inv.limit;
-      leads = subst (λ (cs : List PlacedChange). LeadsTo c.args.start.depth start (map (λ (each : PlacedChange). each.change) cs) new.space)
-          (sym c.in_ok-list.ensures)
+      leads = rw c.in_ok-list.ensures
           (listed_leads c.args.start.depth start c.loop-place.changes.items old.space new.space change place call c.index.result.now inv.leads
-          (subst (λ (d : Depth). LeadsTo d old.space (option_to_list change) new.space) (inv.depth ∙ sym c.requires.depth)
-          c.in_ok-change.ensures.leads));
-      numbered = subst (λ (cs : List PlacedChange). (each : PlacedChange) → Contains cs each → IsNumbered each × (each.place < place + 1))
-          (sym c.in_ok-list.ensures)
-          (listed_numbered old.depth old.space new.space c.loop-place.changes.items place change call c.index.result.now few changed
-          inv.numbered);
-      rising = subst (IsNonDecreasingBy (λ each. each.place)) (sym c.in_ok-list.ensures)
+          (rw (inv.depth ∙ sym c.requires.depth) at c.in_ok-change.ensures.leads));
+      numbered = rw c.in_ok-list.ensures
+          (listed_numbered old.depth old.space new.space c.loop-place.changes.items place change call c.index.result.now few changed inv.numbered);
+      rising = rw c.in_ok-list.ensures
           (listed_rises c.loop-place.changes.items place (λ each has. (inv.numbered each has).1) change call c.index.result.now inv.rising);
       clean = λ clean.
           let done = inv.clean clean in
@@ -119,13 +107,10 @@ loop-place-preserved c =
           ∙ ap (λ n. (step depth n old.space c.in-Some.op).space) inv.limit
           ∙ ap (λ s. (step depth limit s c.in-Some.op).space) done.reached
           ∙ sym (space_next start trace place call c.in-Some.op placed op) in
-          let changes : IsChange depth before (space_from start trace (take (place + 1) trace.log)) change =
-          subst (λ s. IsChange depth before s change) after
-          (subst (λ s. IsChange depth s new.space change) done.reached
-          (subst (λ d. IsChange d old.space new.space change) inv.depth changed)) in
+          let changes : IsChange depth before (space_from start trace (take (place + 1) trace.log)) change = rw (inv.depth, done.reached, after) at changed in
           record {
             reached = after;
-            are = subst (λ xs. AreChangesBelow start trace xs (place + 1)) (sym c.in_ok-list.ensures)
+            are = rw c.in_ok-list.ensures
                 (listed_more start trace c.loop-place.changes.items place done.are change call c.index.result.now placed told changes);
           };
     }

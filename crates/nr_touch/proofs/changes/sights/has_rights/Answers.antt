@@ -1,9 +1,8 @@
-use Rattle.std.proofs.Common.{◌≡◌, ℕ, suc, ◌+◌, ◌<◌, refl, subst, arith}
-use Rattle.std.proofs.lemmas.Bool.{false≢true}
+use Rattle.std.proofs.Common.{◌≡◌, ℕ, suc, ◌<◌, refl, arith}
 use Rattle.vs_types.specs.Codes.{rights_code}
 use Rattle.nr_trace.proofs.LawsOfUnits.{rights_from}
 use Rattle.vs_types.proofs.LogWords.{rights_code_low}
-use Rattle.nr_touch.specs.inside.Sights.{HasSight}
+use Rattle.nr_touch.proofs.Tests.{no, yes}
 use Rattle.nr_touch.proofs.changes.sights.has_rights.Goals as goal
 
 pub loop-code-init : goal.loop-code-init
@@ -18,19 +17,8 @@ pub returns-then-has : goal.returns-then-has
 returns-then-has c =
     let code = c.loop-code.code in
     let is = coded code c.loop-code-test.true in
-    let some : HasSight c.args.sights.now (record c.args.from { kind = code + 1 }) c.args.last = c.has.ensures.0 c.if-has.true in (
-      λ t. (
-        rights_from code,
-        (c.is_so.ensures (rights_from code) is).0 c.if-is_so.true,
-        subst (λ n. HasSight c.args.sights.now (record c.args.from { kind = n + 1 }) c.args.last) is some,
-      ),
-      λ so. refl,
-    )
+    yes (rights_from code, (c.is_so.ensures (rights_from code) is).0 c.if-is_so.true, rw is at (c.has.ensures.0 c.if-has.true))
 
 pub returns : goal.returns
-returns c = (
-  λ t. absurd (false≢true t),
-  λ (rights, so, some). absurd (
-      let few = rights_code_low rights in
-      c.loop-code.invariant rights (omega (arith, few, c.loop-code-test.false)) so some),
-)
+returns c = no (λ (rights, so, some).
+    let few = rights_code_low rights in c.loop-code.invariant rights (omega (arith, few, c.loop-code-test.false)) so some)

@@ -1,7 +1,5 @@
 use Rattle.std.proofs.Common.{◌≡◌, sym, ap, ◌∙◌, subst, None}
 use Rattle.std.specs.FinMap as finite
-use Rattle.vs_types.specs.Operation.{IsAction}
-use Rattle.vs_types.specs.Page.{IsPage}
 use Rattle.vs_types.specs.Space.{Space, least_overlapped}
 use Rattle.vs_types.specs.Step.{step}
 use Rattle.vs_types.specs.declared.op.Action.{Action}
@@ -20,13 +18,13 @@ of-requires c =
 pub apply-requires : goal.apply-requires
 apply-requires c =
     let (before, from) = c.requires in
-    subst (IsAction c.args.space.now.depth) (sym c.of.ensures)
+    rw c.of.ensures
     (page_base c.args.space.now.depth c.args.change.page from.changed.well_formed)
 
 pub add-requires-clause-well_formed : goal.add-requires-clause-well_formed
 add-requires-clause-well_formed c =
     let (before, from) = c.requires in
-    subst (λ d. IsPage d c.args.change.page) (sym (ap (λ (s : BoundedSpace). s.depth) c.in_ok-apply.ensures.ok.1)) from.changed.well_formed
+    rw (ap (λ (s : BoundedSpace). s.depth) c.in_ok-apply.ensures.ok.1) from.changed.well_formed
 
 pub add-requires-clause-free : goal.add-requires-clause-free
 add-requires-clause-free c =

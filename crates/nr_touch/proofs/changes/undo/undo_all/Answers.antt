@@ -1,5 +1,5 @@
 use Rattle.std.proofs.Common.{◌≡◌, ℕ, ◌+◌, ◌-◌, ◌<◌, false, List, length, get_or, take, sym, ap, ◌∙◌, subst, refl, arith}
-use Rattle.std.proofs.Math.Seq.{take-length}
+use Rattle.std.proofs.lemmas.List.{take_all}
 use Rattle.vs_types.specs.Space.{Space}
 use Rattle.vs_types.specs.declared.depth.Depth.{Depth}
 use Rattle.vs_types.specs.declared.page.Size.TheVariants.{K4}
@@ -37,10 +37,7 @@ loop-undone-init c = record {
   depth = refl;
   limit = refl;
   leads = λ before leads.
-      let changes = c.args.changes.now in
-      let all : length changes ≡ length changes - 0 = omega arith in
-      subst (λ n. LeadsTo c.args.space.depth before (take n changes) c.args.space.space) all
-      (subst (λ (cs : List Change). LeadsTo c.args.space.depth before cs c.args.space.space) (sym (take-length changes)) leads);
+      rw (take_all (length c.args.changes.now - 0) c.args.changes.now (omega arith)) leads;
 }
 
 pub undo-requires : goal.undo-requires

@@ -1,4 +1,4 @@
-use Rattle.std.proofs.Common.{◌≡◌, ℕ, ◌+◌, ◌*◌, ◌-◌, ◌≤◌, length, Option}
+use Rattle.std.proofs.Common.{◌≡◌, ◌+◌, ◌*◌, ◌-◌, ◌≤◌, length, Option}
 use Rattle.vs_types.specs.Space.{Space}
 use Rattle.nr_trace.specs.Orders.{space_from}
 use Rattle.nr_trace.specs.Recording.{Recording}

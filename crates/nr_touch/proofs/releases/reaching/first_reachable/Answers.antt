@@ -22,8 +22,8 @@ of-requires-clause-roomy c = λ page has.
     roomy_pages is_space page
     ((holds_listed is_space page).1 (c.in_ok-present.ensures.only page (subst (λ (xs : List Page). Contains xs page) c.deref.ensures.value has)))
 
-pub first_wrong-found-requires-clause-met : goal.first_wrong-found-requires-clause-met
-first_wrong-found-requires-clause-met c = record {
+pub first_wrong-requires-clause-met : goal.first_wrong-requires-clause-met
+first_wrong-requires-clause-met c = record {
   present = c.deref.result.now;
   all = subst (λ (cs : List PlacedChange). HavePresent cs c.args.space.now.space c.deref.result.now) c.deref-changes.ensures.value
       (subst (HavePresent c.deref-changes.result.now c.args.space.now.space) (sym c.deref.ensures.value) c.in_ok-present.ensures.all);
@@ -33,7 +33,7 @@ first_wrong-found-requires-clause-met c = record {
 
 pub returns-clause-finds : goal.returns-clause-finds
 returns-clause-finds c = λ before start segment followed are places has stayed.
-    c.first_wrong-found.ensures.finds before start segment followed are places
+    c.in_ok-found.ensures.finds before start segment followed are places
     (subst (λ (cs : List PlacedChange). HaveQuiet cs c.args.space.now.space c.in_ok-quiet.quiet) c.deref-changes.ensures.value
     (c.in_ok-quiet.ensures start has
     (subst (λ (cs : List PlacedChange). HasStayed cs start c.args.space.now.space) (sym c.deref-changes.ensures.value) stayed)))

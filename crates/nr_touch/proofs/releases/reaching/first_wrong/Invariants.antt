@@ -6,9 +6,16 @@ use Rattle.nr_joined.specs.Run.{Run}
 use Rattle.nr_touch.specs.Releases.{NoneWrongBelow}
 use Rattle.nr_touch.specs.inside.Earlier.{IsFollowed}
 use Rattle.nr_touch.specs.inside.Indexed.{HaveQuiet}
+use Rattle.nr_touch.specs.inside.Levels.{left_in}
+use Rattle.nr_touch.specs.inside.Overs.{AreKnown}
 use Rattle.nr_touch.proofs.releases.reaching.first_wrong.Given as goal
 
 abbrev pub invariant-loop-index : goal.invariant-loop-index
-invariant-loop-index l = (before : Option Run) (start : Space) (segment : Recording) → IsFollowed before start segment l.history l.earlier
-    → l.space.space ≡ space_from start segment segment.log → l.places ≡ length segment.log
-    → HaveQuiet l.history.changes.items l.space.space l.reach.quiet → NoneWrongBelow before start segment l.releases l.index
+invariant-loop-index l = record {
+  none : (before : Option Run) (start : Space) (segment : Recording) → IsFollowed before start segment l.history l.earlier
+      → l.space.space ≡ space_from start segment segment.log → l.places ≡ length segment.log
+      → HaveQuiet l.history.changes.items l.space.space l.reach.quiet → NoneWrongBelow before start segment l.releases l.index;
+  known : (before : Option Run) (start : Space) (segment : Recording) → IsFollowed before start segment l.history l.earlier
+      → l.space.space ≡ space_from start segment segment.log → l.places ≡ length segment.log
+      → AreKnown start segment (left_in l.earlier) l.reach.changed l.overs;
+}

@@ -1,9 +1,8 @@
-use Rattle.std.proofs.Common.{◌≡◌, ◌++◌, List, map, take, ap, sym, ◌∙◌, subst, arith}
+use Rattle.std.proofs.Common.{◌++◌, List, map, take, ap, sym, ◌∙◌, arith}
 use Rattle.std.proofs.lemmas.List.{map-append, take_all}
 use Rattle.nr_touch.specs.inside.Levels.{left_in}
 use Rattle.nr_touch.specs.inside.Reached.{seen_left}
 use Rattle.nr_touch.specs.declared.changes.history.History.{History}
-use Rattle.nr_touch.specs.declared.releases.seen.Seen.{Seen}
 use Rattle.nr_touch.proofs.cuts.Levels.{left_with}
 use Rattle.nr_touch.proofs.releases.seen.all_left.Goals as goal
 

@@ -11,7 +11,7 @@ use Rattle.nr_touch.proofs.releases.stays.put.Goals.{in-Some+else-meets+in_ok-pu
 pub returns-then-meets-clause-kept : goal.returns-then-meets-clause-kept
 returns-then-meets-clause-kept c =
     joined_kept c.args.stays.now.items c.pop.new.self.items c.push.new.self.items c.in-Some.last c.args.stay c.with.result c.in-Some.ensures.items
-    c.in_ok-push.ensures.items c.with.ensures.page c.with.ensures.own c.with.ensures.other (c.meets.ensures c.if-meets.true)
+    c.in_ok-push.ensures.items c.with.ensures.page c.with.ensures.places c.with.ensures.own c.with.ensures.other (c.meets.ensures c.if-meets.true)
 
 pub returns-then-meets-clause-roomy : goal.returns-then-meets-clause-roomy
 returns-then-meets-clause-roomy c = λ roomy own.

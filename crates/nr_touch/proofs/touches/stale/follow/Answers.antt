@@ -1,22 +1,22 @@
-use Rattle.std.proofs.Common.{◌≡◌, ◌<◌, ◌++◌, ℕ, List, Contains, IfSome, Option, length, map, refl, sym, ap, ◌∙◌, subst, arith}
+use Rattle.std.proofs.Common.{◌≡◌, ◌<◌, List, Option, length, map, refl, sym, ap, ◌∙◌, subst, arith}
 use Rattle.std.specs.List.Sorted.{IsPermutation}
-use Rattle.std.proofs.lemmas.List.Sorted.{IsPermutation-sym, Contains-permutation}
+use Rattle.std.proofs.lemmas.List.Sorted.{Contains-permutation}
 use Rattle.vs_types.specs.Space.{Space}
+use Rattle.nr_trace.specs.Laws.{HasCleanLog}
 use Rattle.nr_trace.specs.Recording.{Recording}
 use Rattle.nr_joined.specs.Run.{Run}
 use Rattle.vs_types.specs.declared.depth.Depth.{Depth}
 use Rattle.nr_joined.proofs.Orderly.{clean_is_orderly}
 use Rattle.nr_touch.specs.declared.changes.change.Change.{Change}
 use Rattle.nr_touch.specs.declared.changes.change.PlacedChange.{PlacedChange}
-use Rattle.nr_touch.specs.inside.Earlier.{AreOfRun}
-use Rattle.nr_touch.specs.inside.Lefts.{KeepLooks}
-use Rattle.nr_touch.specs.inside.Levels.{left_in, left_of, IsLadder}
-use Rattle.nr_touch.specs.Tails.{IsSoundLeft, IsTailOf}
-use Rattle.nr_touch.specs.inside.Indexed.{HasPages, HasStayed}
+use Rattle.nr_touch.specs.inside.Changes.{AreChanges}
+use Rattle.nr_touch.specs.inside.Earlier.{AreOfRun, IsFollowed}
+use Rattle.nr_touch.specs.inside.Levels.{left_in, AreLevels, IsLadder}
+use Rattle.nr_touch.specs.Tails.{GoesOn, IsTailOf}
+use Rattle.nr_touch.specs.inside.Indexed.{HasStayed}
 use Rattle.nr_touch.specs.declared.changes.history.History.{History}
 use Rattle.nr_touch.specs.declared.touches.tail.Tail.{Tail}
 use Rattle.nr_touch.specs.inside.Undo.{LeadsTo}
-use Rattle.nr_touch.specs.declared.touches.tail.Left.{Left}
 use Rattle.nr_touch.proofs.IndexedPages.{still_there}
 use Rattle.nr_touch.proofs.cuts.Levels.{ladder, levels_permuted}
 use Rattle.nr_touch.proofs.cuts.Tails.{index_of_tail, of_run, tail_with}
@@ -42,8 +42,7 @@ first_reachable-requires-clause-earlier c = subst IsLadder (sym c.deref-4.ensure
 
 pub left_after-requires-clause-own : goal.left_after-requires-clause-own
 left_after-requires-clause-own c =
-    subst (λ (xs : List Left). (left : Left) → Contains xs left → IsSoundLeft left)
-    (sym (c.deref-5.ensures.value ∙ c.in_ok-lefts.ensures ∙ ap (map left_of) c.deref-2.ensures.value))
+    rw (c.deref-5.ensures.value, c.in_ok-lefts.ensures, c.deref-2.ensures.value)
     (sound_lefts c.in_ok-own.own.items c.in_ok-own.ensures.numbered)
 
 pub undo_all-requires : goal.undo_all-requires
@@ -64,35 +63,34 @@ stayed depth start space own sorted same leads = λ page holds none.
     none (placed, Contains-permutation own sorted placed same listed, ap (λ (one : Change). one.page.base) is ∙ begins))
     holds
 
+-- the columns are those of a segment that goes on behind a run, and those of what the run left
+followed_by : (run : Option Run) (start : Space) (segment : Recording) (tail : Tail) (own : List PlacedChange) (history : History) (levels : List History)
+    → HasCleanLog segment → AreChanges start segment own → IsPermutation own history.changes.items → AreLevels tail.changes.items tail.levels.items
+    → levels ≡ tail.levels.items → IsTailOf run tail → GoesOn run segment start → IsFollowed run start segment history levels
+followed_by run start segment tail own history levels clean are same left is of_tail goes_on = record {
+  orderly = clean_is_orderly segment clean;
+  goes_on = goes_on;
+  own = permuted start segment own history.changes.items same are;
+  earlier = subst (λ (ls : List History). AreOfRun run (left_in ls)) (sym is)
+      (of_run run tail left.placed (left_in tail.levels.items) of_tail left.are (levels_permuted left.placed tail.levels.items left.cover));
+}
+
 pub returns-clause-finds : goal.returns-clause-finds
 returns-clause-finds c = λ run of_tail goes_on clean.
-    let start = c.args.start.space in
-    let segment = c.args.segment.now in
-    let are = permuted start segment c.in_ok-own.own.items c.in_ok-history.history.changes.items c.in_ok-history.ensures.same
-    (c.in_ok-own.ensures.changes clean) in
-    let levels = c.requires.sound.1 in
-    let earlier = subst (λ (ls : List History). AreOfRun run (left_in ls)) (sym c.deref-3.ensures.value)
-    (of_run run c.args.tail levels.placed (left_in c.args.tail.levels.items) of_tail levels.are
-    (levels_permuted levels.placed c.args.tail.levels.items levels.cover)) in
-    c.first_of-stale.ensures.finds run start segment
-    (record { orderly = clean_is_orderly segment clean; goes_on = goes_on; own = are; earlier = earlier })
+    c.first_of-stale.ensures.finds run c.args.start.space c.args.segment.now
+    (followed_by run c.args.start.space c.args.segment.now c.args.tail c.in_ok-own.own.items c.in_ok-history.history c.deref-3.result.now clean
+    (c.in_ok-own.ensures.changes clean) c.in_ok-history.ensures.same c.requires.sound.1 c.deref-3.ensures.value of_tail goes_on)
     (c.in_ok-own.ensures.space clean) (ap length c.log.ensures.reads)
 
 pub returns-clause-reaches : goal.returns-clause-reaches
 returns-clause-reaches c = λ run of_tail goes_on clean.
-    let start = c.args.start.space in
-    let segment = c.args.segment.now in
-    let are = permuted start segment c.in_ok-own.own.items c.in_ok-history.history.changes.items c.in_ok-history.ensures.same
-    (c.in_ok-own.ensures.changes clean) in
-    let levels = c.requires.sound.1 in
-    let earlier = subst (λ (ls : List History). AreOfRun run (left_in ls)) (sym c.deref-4.ensures.value)
-    (of_run run c.args.tail levels.placed (left_in c.args.tail.levels.items) of_tail levels.are
-    (levels_permuted levels.placed c.args.tail.levels.items levels.cover)) in
-    c.in_ok-reachable.ensures.finds run start segment
-    (record { orderly = clean_is_orderly segment clean; goes_on = goes_on; own = are; earlier = earlier }) (c.in_ok-own.ensures.space clean)
-    (ap length c.log.ensures.reads) (index_of_tail run start segment c.args.tail goes_on of_tail)
-    (stayed c.args.start.depth start c.in_ok-own.space.space c.in_ok-own.own.items c.in_ok-history.history.changes.items c.in_ok-history.ensures.same
-    c.in_ok-own.ensures.leads)
+    c.in_ok-reachable.ensures.finds run c.args.start.space c.args.segment.now
+    (followed_by run c.args.start.space c.args.segment.now c.args.tail c.in_ok-own.own.items c.in_ok-history.history c.deref-4.result.now clean
+    (c.in_ok-own.ensures.changes clean) c.in_ok-history.ensures.same c.requires.sound.1 c.deref-4.ensures.value of_tail goes_on)
+    (c.in_ok-own.ensures.space clean) (ap length c.log.ensures.reads)
+    (index_of_tail run c.args.start.space c.args.segment.now c.args.tail goes_on of_tail)
+    (stayed c.args.start.depth c.args.start.space c.in_ok-own.space.space c.in_ok-own.own.items c.in_ok-history.history.changes.items
+    c.in_ok-history.ensures.same c.in_ok-own.ensures.leads)
 
 pub returns-clause-tail : goal.returns-clause-tail
 returns-clause-tail c = λ run of_tail goes_on clean.
@@ -100,9 +98,8 @@ returns-clause-tail c = λ run of_tail goes_on clean.
     let segment = c.args.segment.now in
     let found : Tail = record { changes = c.in_ok-changes.changes; levels = c.in_ok-changes.levels; index = c.in_ok-reachable.index } in
     let few : length segment.events < 4294967295 = let most = c.log.ensures.in_range.few_events in omega (arith, most) in
-    let looks = subst (λ (own : List Left). KeepLooks (c.args.tail.changes.items ++ own) found.changes.items)
-    (c.deref-5.ensures.value ∙ c.in_ok-lefts.ensures ∙ ap (map left_of) c.deref-2.ensures.value) c.in_ok-changes.ensures.looks in
-    let indexed = subst (λ (space : Space). IfSome found.index (λ i. HasPages i space)) (c.in_ok-own.ensures.space clean)
+    let looks = rw (c.deref-5.ensures.value, c.in_ok-lefts.ensures, c.deref-2.ensures.value) at c.in_ok-changes.ensures.looks in
+    let indexed = rw (c.in_ok-own.ensures.space clean) at
     (c.in_ok-reachable.ensures.index start (index_of_tail run start segment c.args.tail goes_on of_tail)
     (stayed c.args.start.depth start c.in_ok-own.space.space c.in_ok-own.own.items c.in_ok-history.history.changes.items c.in_ok-history.ensures.same
     c.in_ok-own.ensures.leads)) in

@@ -1,11 +1,8 @@
-use Rattle.std.proofs.Common.{◌↔◌, List, take, IsTrue, sym, subst, arith}
+use Rattle.std.proofs.Common.{take, arith}
 use Rattle.std.proofs.lemmas.Bool.{false≢true}
 use Rattle.std.proofs.lemmas.List.{take_all}
 use Rattle.vs_types.proofs.Lists.{not_in_nil}
-use Rattle.nr_touch.specs.inside.Earlier.{IsAnsweredSo}
 use Rattle.nr_touch.specs.inside.Levels.{left_in}
-use Rattle.nr_touch.specs.declared.changes.change.PlacedChange.{PlacedChange}
-use Rattle.nr_touch.specs.declared.changes.history.History.{History}
 use Rattle.nr_touch.proofs.cuts.Levels.{left_with, level_at}
 use Rattle.nr_touch.proofs.touches.stale.is_of_earlier.Goals as goal
 
@@ -23,12 +20,10 @@ loop-level-preserved c =
     let index = c.loop-level.level-index in
     let level = c.level-item.result in
     let less = c.loop-level-test.true in
-    subst (λ (xs : List PlacedChange). IsTrue c.is_answered_with-found.result ↔ IsAnsweredSo xs c.args.touch.now)
-    (sym (left_with levels index level less c.level-item.is))
+    rw (left_with levels index level less c.level-item.is)
     (c.is_answered_with-found.ensures (left_in (take index levels)) (c.requires.rise index level (level_at levels index level less c.level-item.is))
     c.loop-level.invariant)
 
 pub returns : goal.returns
 returns c =
-    subst (λ (xs : List History). IsTrue c.loop-level.found ↔ IsAnsweredSo (left_in xs) c.args.touch.now)
-    (take_all c.loop-level.level-index c.args.earlier.now (omega (arith, c.loop-level-test.false))) c.loop-level.invariant
+    rw (take_all c.loop-level.level-index c.args.earlier.now (omega (arith, c.loop-level-test.false))) at c.loop-level.invariant

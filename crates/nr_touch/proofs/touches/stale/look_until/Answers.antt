@@ -1,14 +1,13 @@
-use Rattle.std.proofs.Common.{sym, ap, ◌∙◌, subst, IfSome}
+use Rattle.std.proofs.Common.{sym, ap, ◌∙◌}
 use Rattle.vs_types.specs.Step.{look_in_page}
-use Rattle.nr_touch.specs.inside.Columns.{Covers, IsNumbered}
 use Rattle.nr_touch.specs.inside.Walk.{shown}
 use Rattle.nr_touch.proofs.touches.stale.look_until.Goals as goal
 
 pub look_before-requires-clause-has : goal.look_before-requires-clause-has
-look_before-requires-clause-has c = subst (λ o. IfSome o (Covers c.args.address)) c.in-Some.is c.requires.covers
+look_before-requires-clause-has c = rw c.in-Some.is at c.requires.covers
 
 pub look_before-requires-clause-low : goal.look_before-requires-clause-low
-look_before-requires-clause-low c = (subst (λ o. IfSome o IsNumbered) c.in-Some.is c.requires.numbered).low
+look_before-requires-clause-low c = (rw c.in-Some.is at c.requires.numbered).low
 
 pub returns-in-Some : goal.returns-in-Some
 returns-in-Some c = λ now e.

@@ -1,4 +1,4 @@
-use Rattle.std.proofs.Common.{◌≡◌, ◌-◌, ◌≤◌, length, take}
+use Rattle.std.proofs.Common.{◌-◌, ◌≤◌, length, take}
 use Rattle.nr_touch.specs.inside.Levels.{AreLevels}
 use Rattle.nr_touch.proofs.touches.tail.merged.Given as goal
 

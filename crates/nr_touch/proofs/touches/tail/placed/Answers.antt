@@ -1,10 +1,7 @@
-use Rattle.std.proofs.Common.{◌+◌, ◌<◌, ◌^◌, ◌++◌, ◌∷◌, [], List, sym, ap, ◌∙◌, subst, arith}
+use Rattle.std.proofs.Common.{◌+◌, ◌<◌, ◌^◌, arith}
 use Rattle.std.proofs.lemmas.List.{take_all}
 use Rattle.std.proofs.lemmas.List.Elements.{Contains-get_or}
-use Rattle.nr_touch.specs.inside.Levels.{ArePlacedFrom}
-use Rattle.nr_touch.specs.declared.changes.change.PlacedChange.{PlacedChange}
-use Rattle.nr_touch.specs.declared.touches.tail.Left.{Left}
-use Rattle.nr_touch.proofs.cuts.Placed.{none_placed, one_placed, places_rise, ArePlacedTo}
+use Rattle.nr_touch.proofs.cuts.Placed.{none_placed, one_placed, places_rise}
 use Rattle.nr_touch.proofs.touches.tail.placed.Goals as goal
 
 pub loop-index-init : goal.loop-index-init
@@ -20,14 +17,12 @@ loop-index-preserved c =
     let index = c.loop-index.index in
     let less = c.loop-index-test.true in
     let few : start + index + 1 < 2 ^ 32 = let most = c.requires.few in omega (arith, most, less) in
-    subst (λ (xs : List PlacedChange). ArePlacedTo start changes xs (index + 1))
-    (sym (c.in_ok-push.ensures.items ∙ ap (λ (x : PlacedChange). c.loop-index.placed.items ++ x ∷ []) c.placed_at.ensures))
+    rw (c.in_ok-push.ensures.items, c.placed_at.ensures)
     (one_placed start changes c.loop-index.placed.items index _ less (c.requires.each _ (Contains-get_or changes index _ less)) few c.loop-index.invariant)
 
 pub returns-clause-each : goal.returns-clause-each
 returns-clause-each c =
-    subst (λ (xs : List Left). ArePlacedFrom c.args.start xs c.loop-index.placed.items)
-    (take_all c.loop-index.index c.args.changes.now (let over = c.loop-index-test.false in omega (arith, over))) c.loop-index.invariant.are
+    rw (take_all c.loop-index.index c.args.changes.now (let over = c.loop-index-test.false in omega (arith, over))) at c.loop-index.invariant.are
 
 pub returns-clause-by_place : goal.returns-clause-by_place
 returns-clause-by_place c = places_rise c.args.start _ c.loop-index.placed.items c.loop-index.invariant.are

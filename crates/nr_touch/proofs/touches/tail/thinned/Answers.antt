@@ -1,11 +1,9 @@
-use Rattle.std.proofs.Common.{◌+◌, inl, inr, List, drop, get_or, length, false, sym, ◌∙◌, subst, arith}
+use Rattle.std.proofs.Common.{◌+◌, inl, inr, drop, sym, ◌∙◌, arith}
 use Rattle.std.proofs.lemmas.Bool.{false≢true}
 use Rattle.std.proofs.lemmas.List.Elements.{Contains-get_or}
-use Rattle.nr_touch.specs.inside.Lefts.{KeepEnds, KeepLooks}
-use Rattle.nr_touch.specs.declared.touches.tail.Left.{Left}
 use Rattle.nr_touch.proofs.cuts.Lefts.{far_nothing, hidden_ends, hidden_nothing}
 use Rattle.nr_touch.proofs.cuts.Placed.{hidden_in}
-use Rattle.nr_touch.proofs.cuts.Thinned.{none_thinned, one_dropped, one_kept, whole_thinned, IsThinnedTo}
+use Rattle.nr_touch.proofs.cuts.Thinned.{none_thinned, one_dropped, one_kept, whole_thinned}
 use Rattle.nr_touch.proofs.touches.tail.thinned.Goals as goal
 
 pub loop-place-init : goal.loop-place-init
@@ -45,19 +43,18 @@ loop-place-preserved c =
     let place = c.loop-place.place in
     let less = c.loop-place-test.true in
     let kept = c.loop-place.kept.items in
-    subst (λ (xs : List Left). IsThinnedTo changes xs c.note.new.numbers c.args.are_first (place + 1)) (sym c.in_ok-push.ensures.items)
+    rw c.in_ok-push.ensures.items
     (one_kept changes kept c.args.are_first place _ less c.loop-place.numbers c.note.new.numbers (c.requires.each _ (Contains-get_or changes place _ less))
     (c.in_ok-note.ensures kept) c.loop-place.invariant)
 
 pub returns-clause-looks : goal.returns-clause-looks
 returns-clause-looks c =
-    subst (KeepLooks c.args.changes.now)
-    (whole_thinned c.args.changes.now c.loop-place.kept.items c.loop-place.place (omega (arith, c.loop-place-test.false))) c.loop-place.invariant.looks
+    rw (whole_thinned c.args.changes.now c.loop-place.kept.items c.loop-place.place (omega (arith, c.loop-place-test.false))) at c.loop-place.invariant.looks
 
 pub returns-clause-ends : goal.returns-clause-ends
 returns-clause-ends c = λ behind.
-    subst (KeepEnds c.args.changes.now)
-    (whole_thinned c.args.changes.now c.loop-place.kept.items c.loop-place.place (omega (arith, c.loop-place-test.false))) (c.loop-place.invariant.ends behind)
+    rw (whole_thinned c.args.changes.now c.loop-place.kept.items c.loop-place.place (omega (arith, c.loop-place-test.false)))
+    at (c.loop-place.invariant.ends behind)
 
 pub returns-clause-sound : goal.returns-clause-sound
 returns-clause-sound c = record {

@@ -8,11 +8,7 @@ returns c =
     let large = c.last_of-large.ensures in
     let huge = c.last_of-huge.ensures in
     let behind = c.last_before-behind.ensures in
-    let first = small.up in
-    let second = large.up in
-    let third = huge.up in
-    let fourth = behind.up in
     alike_to c.args.self.now.changes.items c.requires.columns.numbered c.args.address _ _ _ _ _ small large huge behind
-    (omega (arith, c.min.ensures, c.min-2.ensures, c.min-3.ensures)) (omega (arith, c.min.ensures, c.min-2.ensures, c.min-3.ensures))
-    (omega (arith, c.min.ensures, c.min-2.ensures, c.min-3.ensures)) (omega (arith, c.min.ensures, c.min-2.ensures, c.min-3.ensures))
-    (omega (arith, c.min.ensures, c.min-2.ensures, c.min-3.ensures, first, second, third, fourth))
+    (omega (arith, c.min.ensures, c.min-2.ensures, c.min-3.ensures))
+    (let first = small.up in let second = large.up in let third = huge.up in let fourth = behind.up in
+    omega (arith, c.min.ensures, c.min-2.ensures, c.min-3.ensures, first, second, third, fourth))

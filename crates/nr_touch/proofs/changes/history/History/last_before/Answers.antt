@@ -1,4 +1,4 @@
-use Rattle.std.proofs.Common.{◌+◌, ◌-◌, ◌%◌, ◌<◌, ◌≤◌, length, refl, sym, arith}
+use Rattle.std.proofs.Common.{◌+◌, ◌<◌, length, refl, arith}
 use Rattle.std.proofs.lemmas.List.{get_or_read}
 use Rattle.nr_touch.specs.inside.Bounds.{IsBoundary}
 use Rattle.nr_touch.proofs.Alikes.{before_next, none_behind, some_base}

@@ -1,4 +1,4 @@
-use Rattle.std.proofs.Common.{List, length, map, ap, ◌∙◌, subst, sym, arith}
+use Rattle.std.proofs.Common.{ℕ, List, length, map, ap, ◌∙◌, subst, sym, arith}
 use Rattle.std.proofs.lemmas.List.{with_items_is}
 use Rattle.std.proofs.lemmas.List.Sorted.{IsPermutation-trans}
 use Rattle.std.specs.Vec.{with_items}
@@ -11,65 +11,30 @@ use Rattle.nr_touch.proofs.releases.lives.Lives.sorted.Goals as goal
 pub sort_by_block-requires : goal.sort_by_block-requires
 sort_by_block-requires c = c.in_ok-sort_by_from.ensures.rising
 
-pub returns-clause-lives : goal.returns-clause-lives
-returns-clause-lives c =
+pub returns : goal.returns
+returns c =
     let rows = c.args.lives.items in
     let sorted = c.sort_by_block.new.lives.items in
+    let old = c.deref_mut.result.now in
     let same = IsPermutation-trans rows c.sort_by_from.new.lives.items sorted c.in_ok-sort_by_from.ensures.same c.in_ok-sort_by_block.ensures.same in
     let blocks = c.in_ok-blocks.ensures ∙ ap (map (λ (each : Life). each.block)) c.deref.ensures.value in
     let from = c.in_ok-from.ensures ∙ ap (map (λ (each : Life). each.from)) c.deref-2.ensures.value in
     let until = c.deref_mut.ensures.value ∙ c.in_ok-until.ensures ∙ ap (map (λ (each : Life). each.until)) c.deref-3.ensures.value in
     let row_of = c.in_ok-rows.ensures ∙ ap (map (λ (each : Life). each.row)) c.deref-5.ensures.value in
-    let raised = with_items_is c.in_ok-until.until c.raise.new.bounds
-    (omega (arith, c.raise.auto.bounds, ap length c.deref_mut.ensures.value, c.in_ok-until.until.ok.0)) in
-    columns rows sorted _ c.deref_mut.result.now same blocks from until row_of
-    (subst (λ (ns : List _). IsRaised ns c.deref_mut.result.now (with_items c.in_ok-until.until c.raise.new.bounds).items (length c.deref_mut.result.now))
-    c.deref-4.ensures.value
-    (subst (λ (ns : List _). IsRaised c.deref-4.result.now c.deref_mut.result.now ns (length c.deref_mut.result.now)) (sym raised) c.raise.ensures))
-    c.in_ok-sort_by_block.ensures.rising
-
-pub returns-clause-columns : goal.returns-clause-columns
-returns-clause-columns c =
-    let rows = c.args.lives.items in
-    let sorted = c.sort_by_block.new.lives.items in
-    let same = IsPermutation-trans rows c.sort_by_from.new.lives.items sorted c.in_ok-sort_by_from.ensures.same c.in_ok-sort_by_block.ensures.same in
-    let blocks = c.in_ok-blocks.ensures ∙ ap (map (λ (each : Life). each.block)) c.deref.ensures.value in
-    let from = c.in_ok-from.ensures ∙ ap (map (λ (each : Life). each.from)) c.deref-2.ensures.value in
-    let until = c.deref_mut.ensures.value ∙ c.in_ok-until.ensures ∙ ap (map (λ (each : Life). each.until)) c.deref-3.ensures.value in
-    let row_of = c.in_ok-rows.ensures ∙ ap (map (λ (each : Life). each.row)) c.deref-5.ensures.value in
-    let raised = with_items_is c.in_ok-until.until c.raise.new.bounds
-    (omega (arith, c.raise.auto.bounds, ap length c.deref_mut.ensures.value, c.in_ok-until.until.ok.0)) in
+    let rising = c.in_ok-sort_by_block.ensures.rising in
     let lives : Lives = record {
       blocks = c.in_ok-blocks.blocks;
       from = c.in_ok-from.from;
       until = with_items c.in_ok-until.until c.raise.new.bounds;
       rows = c.in_ok-rows.rows;
     } in
-    columns_of rows sorted lives c.deref_mut.result.now same blocks from until row_of
-    (subst (λ (ns : List _). IsRaised ns c.deref_mut.result.now (with_items c.in_ok-until.until c.raise.new.bounds).items (length c.deref_mut.result.now))
-    c.deref-4.ensures.value
-    (subst (λ (ns : List _). IsRaised c.deref-4.result.now c.deref_mut.result.now ns (length c.deref_mut.result.now)) (sym raised) c.raise.ensures))
-    c.in_ok-sort_by_block.ensures.rising
-
-pub returns-clause-rows : goal.returns-clause-rows
-returns-clause-rows c =
-    let rows = c.args.lives.items in
-    let sorted = c.sort_by_block.new.lives.items in
-    let same = IsPermutation-trans rows c.sort_by_from.new.lives.items sorted c.in_ok-sort_by_from.ensures.same c.in_ok-sort_by_block.ensures.same in
-    let blocks = c.in_ok-blocks.ensures ∙ ap (map (λ (each : Life). each.block)) c.deref.ensures.value in
-    let from = c.in_ok-from.ensures ∙ ap (map (λ (each : Life). each.from)) c.deref-2.ensures.value in
-    let until = c.deref_mut.ensures.value ∙ c.in_ok-until.ensures ∙ ap (map (λ (each : Life). each.until)) c.deref-3.ensures.value in
-    let row_of = c.in_ok-rows.ensures ∙ ap (map (λ (each : Life). each.row)) c.deref-5.ensures.value in
-    let raised = with_items_is c.in_ok-until.until c.raise.new.bounds
+    let is = with_items_is c.in_ok-until.until c.raise.new.bounds
     (omega (arith, c.raise.auto.bounds, ap length c.deref_mut.ensures.value, c.in_ok-until.until.ok.0)) in
-    let lives : Lives = record {
-      blocks = c.in_ok-blocks.blocks;
-      from = c.in_ok-from.from;
-      until = with_items c.in_ok-until.until c.raise.new.bounds;
-      rows = c.in_ok-rows.rows;
-    } in
-    rows_of rows sorted lives c.deref_mut.result.now same blocks from until row_of
-    (subst (λ (ns : List _). IsRaised ns c.deref_mut.result.now (with_items c.in_ok-until.until c.raise.new.bounds).items (length c.deref_mut.result.now))
-    c.deref-4.ensures.value
-    (subst (λ (ns : List _). IsRaised c.deref-4.result.now c.deref_mut.result.now ns (length c.deref_mut.result.now)) (sym raised) c.raise.ensures))
-    c.in_ok-sort_by_block.ensures.rising
+    let raised : IsRaised lives.blocks.items old lives.until.items (length old) =
+    subst (λ (ns : List ℕ). IsRaised ns old lives.until.items (length old)) c.deref-4.ensures.value
+    (subst (λ (ns : List ℕ). IsRaised c.deref-4.result.now old ns (length old)) (sym is) c.raise.ensures) in
+    record {
+      lives = columns rows sorted lives old same blocks from until row_of raised rising;
+      columns = columns_of rows sorted lives old same blocks from until row_of raised rising;
+      rows = rows_of rows sorted lives old same blocks from until row_of raised rising;
+    }

@@ -1,0 +1,44 @@
+-- Stays that are over for the memory of a release: no later release of it is compared with them. No public clause cites this file.
+use Rattle.std.specs.Prelude.{◌≡◌, ℕ, ◌+◌, ◌*◌, ◌<◌, ◌≤◌, List, slice_get, slice_index, Some, Contains}
+use Rattle.std.specs.BTreeMap.{get}
+use Rattle.vs_types.specs.Page.{bytes_of}
+use Rattle.vs_types.specs.Space.{Space}
+use Rattle.vs_types.specs.declared.page.Page.{Page}
+use Rattle.nr_trace.specs.Recording.{Recording}
+use Rattle.nr_touch.specs.Releases.{HasPhys}
+use Rattle.nr_touch.specs.inside.Columns.{Covers}
+use Rattle.nr_touch.specs.inside.Indexed.{row_cmp}
+use Rattle.nr_touch.specs.inside.Reached.{LeadsBy}
+use Rattle.nr_touch.specs.declared.changes.change.PlacedChange.{PlacedChange}
+use Rattle.nr_touch.specs.declared.releases.changed.Changed.{Changed}
+use Rattle.nr_touch.specs.declared.releases.overs.Over.{Over}
+use Rattle.nr_touch.specs.declared.releases.overs.Overs.{Overs}
+use Rattle.nr_touch.specs.declared.releases.release.Release.{Release}
+use Rattle.nr_touch.specs.declared.releases.stays.Stay.{Stay}
+
+-- the later release is of the same memory as the first one, and not made before it
+pub record IsAgain (release later : Release) : Type 0 where
+  pub size : later.size ≡ release.size
+  pub phys : later.phys ≡ release.phys
+  pub made : release.made ≤ later.made
+
+-- of each address at which the page has memory of the release, the changes before the place were made by the release
+abbrev pub IsSettled : List PlacedChange → Release → Page → ℕ → Type 0
+IsSettled changes release page place = (frame : ℕ) (c : PlacedChange) → frame * 4096 < bytes_of page.size → HasPhys release (page.phys + frame * 4096)
+    → Contains changes c → Covers (page.base + frame * 4096) c → c.place < place → c.made ≤ release.made
+
+-- from the release on the stay leads no release of its memory there
+abbrev pub IsOver : Space → Recording → List PlacedChange → Release → Stay → Type 0
+IsOver start segment earlier release stay =
+    (later : Release) → IsAgain release later → later.made ≤ stay.until → LeadsBy start segment earlier later stay.page stay.place → ⊥
+
+-- so of the rows of a block from an index up to another
+abbrev pub AreOver : Space → Recording → List PlacedChange → Changed → Release → ℕ → ℕ → ℕ → Type 0
+AreOver start segment earlier changed release block begin end = (k : ℕ) (stay : Stay) → begin ≤ k → k < end
+    → slice_index changed.lives.blocks.items k ≡ block → slice_get changed.stays.items (slice_index changed.lives.rows.items k) ≡ Some stay
+    → IsOver start segment earlier release stay
+
+-- so of all that was noted
+abbrev pub AreKnown : Space → Recording → List PlacedChange → Changed → Overs → Type 0
+AreKnown start segment earlier changed overs = (key : ℕ × ℕ) (over : Over) → get row_cmp overs.known key ≡ Some over
+    → AreOver start segment earlier changed over.release over.block 0 over.rows

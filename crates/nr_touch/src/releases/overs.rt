@@ -1,0 +1,96 @@
+//! What releases were compared with in vain: a page that is over for a memory stays over, so a later release of it isn't compared with that
+//! page again.
+
+ghost use Rattle.std.specs.Prelude.{◌≡◌, List, OnOk, IsTrue};
+ghost use Rattle.vs_types.specs.Space.{Space};
+ghost use Rattle.nr_trace.specs.Recording.{Recording};
+ghost use Rattle.nr_touch.specs.inside.Overs.{AreKnown, AreOver, IsAgain};
+ghost use Rattle.nr_touch.specs.declared.changes.change.PlacedChange.{PlacedChange as PlacedRow};
+ghost use Rattle.nr_touch.specs.declared.releases.changed.Changed.{Changed as ChangedRow};
+
+use crate::releases::release::Release;
+use std::alloc::Global;
+use std::collections::BTreeMap;
+use vs_types::{Memory, Size};
+
+/// From a release on, the first rows that are of a block, this many, don't lead to its memory.
+#[derive(Clone, Copy, Debug)]
+pub(crate) struct Over {
+    pub(crate) release: Release,
+    pub(crate) block: u64,
+    pub(crate) rows: usize,
+}
+
+/// What is known by the releases so far: by the memory of a release and a block that it is about.
+#[derive(Debug, Drop)]
+pub(crate) struct Overs {
+    pub(crate) known: BTreeMap<(u64, u64), Over>,
+}
+
+/// The number of a memory.
+fn memory_of(release: &Release) -> u64 {
+    match release.size {
+        Size::K4 => release.phys,
+        Size::M2 => release.phys | 1,
+        Size::G1 => release.phys | 2,
+    }
+}
+
+/// Whether what is over from one release on is so from the other on, which is of the same memory and not before it.
+fn is_again(release: &Release, later: &Release) -> bool
+    ensures { IsTrue result → IsAgain release.now later.now }
+{
+    if later.size != release.size {
+        return false;
+    }
+    if later.phys != release.phys {
+        return false;
+    }
+    release.made <= later.made
+}
+
+impl Overs {
+    /// Before all releases nothing is known. It allocates no memory.
+    pub(crate) fn none(alloc: Global) -> Overs
+        ensures { (start : Space) (segment : Recording) (earlier : List PlacedRow)
+            (changed : ChangedRow) → AreKnown start segment earlier changed result }
+    {
+        Overs {
+            known: BTreeMap::new(alloc),
+        }
+    }
+
+    /// How many of the first rows a release needs no comparison with, if they are of this block: a search.
+    pub(crate) fn rows(&self, release: &Release, block: u64) -> usize
+        ensures { (start : Space) (segment : Recording) (earlier : List PlacedRow)
+            (changed : ChangedRow) → AreKnown start segment earlier changed self.now
+            → AreOver start segment earlier changed release.now block 0 result }
+    {
+        let Some(over) = self.known.get(&(memory_of(release), block)) else {
+            return 0;
+        };
+        if over.block != block {
+            return 0;
+        }
+        if !is_again(&over.release, release) {
+            return 0;
+        }
+        over.rows
+    }
+
+    /// Notes how many of the first rows are over from the release on, if they are of this block. Allocates memory for a new row.
+    pub(crate) fn note(&mut self, release: &Release, block: u64, rows: usize) -> Result<(), Memory>
+        ensures { OnOk result ((start : Space) (segment : Recording) (earlier : List PlacedRow)
+            (changed : ChangedRow) → AreKnown start segment earlier changed self.old
+            → AreOver start segment earlier changed release.now block 0 rows
+            → AreKnown start segment earlier changed self.new) }
+    {
+        let over = Over {
+            release: *release,
+            block,
+            rows,
+        };
+        self.known.insert((memory_of(release), block), over)?;
+        Ok(())
+    }
+}
