@@ -34,7 +34,8 @@
  *     has as many bits of physical address as the frames and pages need: nothing below 2^51 is refused here. If it has no pages of 1 GiB
  *     (CPUID 80000001H, EDX bit 26 is 0), map none;
  *   - XMM registers: the archive is built for x86-64-v2 and moves words in them. So CR0.EM and CR0.TS are 0 and CR4.OSFXSR is 1 before the
- *     first call. If you call from a handler, or preempt a call, save them (FXSAVE; kernel_fpu_begin in Linux);
+ *     first call. If you call from a handler, or preempt a call, save them (FXSAVE; kernel_fpu_begin in Linux). Or link the archive that
+ *     `tools/for_kernels nrvs_c` compiles of the same proved code, out/libnrvs_kernel.a: it uses no XMM registers and no red zone;
  *   - the red zone: a call keeps words within 128 bytes below RSP. So interrupts and faults that may come during a call run on a stack of
  *     their own (IST), or are off. -mno-red-zone for the kernel's own code doesn't change that;
  *   - the stack is aligned to 16 at the call, and has 1 KiB left: tests/for_kernels adds up the frames of each call;
@@ -111,7 +112,7 @@ typedef enum nrvs_size { NRVS_4K = 0, NRVS_2M = 1, NRVS_1G = 2 } nrvs_size;
 #define NRVS_MODES
 typedef enum nrvs_mode { NRVS_SUPERVISOR_MODE = 0, NRVS_USER_MODE = 1 } nrvs_mode;
 #endif
-enum { NRVS_SUPERVISOR = 0 };
+enum { NRVS_SUPERVISOR = 0 }; /* the same as NRVS_SUPERVISOR_MODE */
 
 /* What the access does. */
 enum { NRVS_READ = 0, NRVS_STORE = 1, NRVS_FETCH = 2 };

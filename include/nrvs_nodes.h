@@ -36,17 +36,19 @@
  *     whose word, as loaded, is 17 - u entries or more behind the tail that the call saw. For one update that is a whole ring of 16
  *     entries; for 16 updates one entry is enough;
  *   - if its node takes e entries meanwhile, its own included, a call of u updates on n nodes ends after at most (n + 2 u + 7) (e + 1)
- *     operations and entries, and n + 2 more for each NRVS_NODE_LAGS. A sync ends after at most 6 e + 5. Only calls that begin meanwhile
- *     make e grow: a call ends if the others stop beginning updates, and nodes that lag take entries. Of the calls that go on one always
- *     gets further (lock-free); but while others append without end, a call may be overtaken again and again. A node that was stopped
- *     blocks nobody until a call needs its room in the ring: until 17 - u entries are in the log that it hasn't taken;
+ *     operations and entries, and n + 2 more for each NRVS_NODE_LAGS. A sync ends after at most 6 e + 5. Beyond the entries that its node
+ *     hasn't taken yet, and those of calls that are open already, only calls that begin meanwhile make e grow. So a call ends if the others
+ *     stop beginning updates, and nodes that lag take entries. Of the calls that go on one always gets further (lock-free); but while
+ *     others append without end, a call may be overtaken again and again. A node that was stopped blocks nobody until a call needs its room
+ *     in the ring: until 17 - u entries are in the log that it hasn't taken;
  *   - once every node is done with an entry, that stays so (nrvs_nodes_everywhere). Suppose each node keeps page tables in a memory of its
  *     own, which begin with a root of zeros. It applies each entry by a plan of nrvs_plan.h, changes its tables in no other way, and
  *     flushes its processors before nrvs_node_applied. Then its tables translate as the address space does after the entries that it has
  *     applied. A processor finds what the space has after that many entries, or one more while a plan is carried out. Once every node is
  *     done with an unmap, no processor finds the page any more until a later entry maps it, so its frame may be freed;
- *   - suppose such a run is recorded, calls before the work and replies after it, and each dump is of tables that translate as their node's
- *     space. Then nrvs_audit.h finds no fault in it.
+ *   - suppose such a run is recorded, calls before the work and replies after it, and a trace has room for it (four nodes at most). Each
+ *     dump has the tables of its node and no other frame, meets no fault, and translates as the node's space. Then nrvs_audit.h finds no
+ *     fault in the trace.
  * No clause knows where a field of a struct lies: that this header and the library agree on that is tested (tests/nodes).
  *
  * What the caller has to keep, which no call can test:

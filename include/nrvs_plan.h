@@ -35,7 +35,7 @@
  *
  * What you get: the answer of one sequential address space. A processor that walks at any moment finds the old translation or the new one.
  * No flag that a processor sets is lost, and the named flush is sufficient. If another root leads to some of these tables, its processors
- * find the same on three conditions, for one plan with a flush of its own, but not for ranges. The same README has each promise with its
+ * find the same on four conditions, for one plan with a flush of its own, but not for ranges. The same README has each promise with its
  * clauses, in "What a plan promises" and "What a range promises". Names in brackets here are clauses. No clause knows where a field of a
  * struct lies: that this header and the library agree on that is tested (tests/plans).
  */
@@ -87,7 +87,7 @@ struct nrvs_plan {
 				   * of NRVS_EMPTY an address, of NRVS_RESERVED an index */
 	uint32_t flush;           /* NRVS_FLUSH_NOTHING .. */
 	uint32_t flush_size;      /* of the page, or of the range: NRVS_4K .. */
-	uint64_t flush_base;      /* its first address */
+	uint64_t flush_base;      /* its first address; of a prune the address that was given */
 	uint64_t unlinked_count;
 	uint64_t fills;           /* 1 if a frame is filled before the stores, else 0 */
 	uint64_t store_count;
@@ -229,7 +229,7 @@ uint32_t nrvs_plan_ask(struct nrvs_plan *plan, const struct nrvs_target *target,
  * unless it is refused, it returns NRVS_PLANNED, or NRVS_GIVE, or NRVS_SEE for a frame that lies elsewhere, after which nrvs_plan_see goes
  * on [HasSeen: waits, elsewhere, kept]. The plan is right for each memory that has these frames [HasSeen: next].
  *
- * If the walk leads to a table of level 1 there, and no table is linked or unlinked, the plan is made in one walk, in some 190
+ * If the walk leads to a table of level 1 there, and no table is linked or unlinked, the plan is made in one walk, in some 200
  * instructions. Everything else is planned as by the single calls. Then the words of the first walk are read once more, and what the first
  * read gave isn't used. We tested that the plan is just that of the single calls (tests/plans), and read in the code that only frames on
  * the walk are read. So only these have to stay as they are while the call runs, except for flags. Others may change, for example under
@@ -369,9 +369,9 @@ uint32_t nrvs_plan_unmap_range(struct nrvs_run *run, const struct nrvs_target *t
 uint32_t nrvs_plan_protect_range(struct nrvs_run *run, const struct nrvs_target *target, uint64_t base, uint64_t bytes, uint32_t rights);
 uint32_t nrvs_plan_harvest_range(struct nrvs_run *run, const struct nrvs_target *target, uint64_t base, uint64_t bytes);
 
-/* Shows the words of `run->plan.frame` [next]. At most one frame a level is asked for, and that of the lowest table once more if an unmap
- * would leave it empty [fewer]. A page at the base that ends beyond the range is named so, and one that can go in a run does [taken].
- * NRVS_NOT_ASKED if no words are waited for [asked].
+/* Shows the words of `run->plan.frame` [next]. At most one frame a level is asked for, and one once more [fewer]. That is the lowest table,
+ * if an unmap would leave it empty, as we read in the code. A page at the base that ends beyond the range is named so, and one that can go
+ * in a run does [taken]. NRVS_NOT_ASKED if no words are waited for [asked].
  */
 uint32_t nrvs_run_see(struct nrvs_run *run, const uint64_t words[512]);
 
