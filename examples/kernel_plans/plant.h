@@ -1,5 +1,5 @@
-/* A mistake put in on purpose, by -DPLANT=...: each has to be seen, or the accesses show nothing. Where one shows only to accesses that are
- * made in time, it waits for these.
+/* A mistake put in on purpose, by -DPLANT=...: each but PLANT_ONE has to be seen, or the accesses and what is recorded show nothing. Where
+ * one shows only to accesses that are made in time, it waits for these.
  */
 #ifndef PLANT_H
 #define PLANT_H
