@@ -1,8 +1,8 @@
 #!/usr/bin/env python3
 """Times `nrvs audit` of one trace beside the plain program: audits.py KIND TRACE PROGRAM PLAIN RUNS.
 
-Prints the bytes of the trace, and of `cat`, the program and the plain one the least processor time of so many runs, in seconds, and of
-the last two the median peak of memory, in KB; and how many times as much of each the program takes. Each program runs in turn.
+Prints the bytes of the trace, and of `cat`, the program and the plain one the least processor time of so many runs, in seconds. Of the last
+two it prints the median peak of memory, in KB, and how many times as much of each the program takes. Each program runs in turn.
 """
 import os
 import resource

@@ -1,8 +1,8 @@
 #!/usr/bin/env python3
-"""chains.py PROGRAM RUNS SEGMENTS: a chain of so many segments beside its segments as traces, in one process each, run in turn; a chain of
-one of them; three segments with touches, and the same without; one of touches beside updates that are never answered; three with releases,
-and one of releases of a large page's memory that small pages replaced; and many small segments: of one touch each behind 32,768 pages,
-beside one segment of as many, and of one event each in a layout of 65,535 threads.
+"""chains.py PROGRAM RUNS SEGMENTS: a chain of so many segments beside its segments as traces, in one process each, run in turn; and a chain
+of one of them. Then three segments with touches, the same without, and one of touches beside updates that are never answered. Then three
+with releases, and one of releases of a large page's memory that small pages replaced. And many small segments: of one touch each behind
+32,768 pages, beside one segment of as many, and of one event each in a layout of 65,535 threads.
 
 Each line: what is audited, the least processor time of its runs, and the greatest peak of memory. Of the chain and the traces, which have
 the same events, the median of the ratios of neighbouring runs is printed too: how many times as fast the chain is.

@@ -2,7 +2,7 @@
 //!     benchmarks/run nodes
 //!     ./nodes lock|shared|sequence|std THREADS NODES CALLS READS [maps]
 //! A thread leaves its update in a slot, and whoever has its node's lock appends all that he finds there, up to 16. With `lock` a read has
-//! the node's lock; with `shared` it is one of several, each of whom has a flag that whoever changes the table waits for; with `sequence` it
+//! the node's lock. With `shared` it is one of several, each of whom has a flag that whoever changes the table waits for. With `sequence` it
 //! reads beside a change, and again where there was one. `std` is `Nodes`, where an update is appended alone, under a lock of `std`.
 #[allow(dead_code)]
 #[path = "unverified_replicas.rs"]

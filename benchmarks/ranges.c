@@ -3,7 +3,7 @@
  *
  *     ranges WHICH KIND ROUNDS: run, shown, pages, loop or none; map, protect, unmap or harvest
  *
- * `run` hands over all frames, as a direct map has them; `shown` shows each that is asked for; `pages` makes a plan for each page; `none`
+ * `run` hands over all frames, as a direct map has them; `shown` shows each that is asked for; `pages` makes a plan for each page. `none`
  * does only what comes before each round: the table is set up again.
  */
 #define _POSIX_C_SOURCE 200809L

@@ -1,6 +1,6 @@
 #!/usr/bin/env python3
-"""replicas_sums.py THREADS CALLS READS: what `nrvs_benchmark replicas` prints, by the draws of its threads alone: page n is mapped to
-the physical address n * 4096, and no update changes that, nor does one map or unmap a page that is read."""
+"""replicas_sums.py THREADS CALLS READS: what `nrvs_benchmark replicas` prints, by the draws of its threads alone. Page n is mapped to
+the physical address n * 4096. No update changes that, nor does one map or unmap a page that is read."""
 import sys
 
 PAGES = 16384

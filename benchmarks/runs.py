@@ -6,8 +6,8 @@
 
 Build `nrvs` first. Half of the requests resolve a drawn address of 4,096 pages, the others map, protect or unmap a drawn page. The plain
 programs: the same design, whose trace is judged too; the same design with no verdict; and the protocol tuned for speed, which keeps no
-answers, with no verdict. Prints of 1 and 4 replicas the seconds and the peak memory of each (medians of RUNS runs of all in drawn order),
-and how many times as fast as it `nrvs run` is, by the median of the ratios of neighbouring runs.
+answers, with no verdict. Prints of 1 and 4 replicas the seconds and the peak memory of each (medians of RUNS runs of all in drawn order).
+Beside it is how many times as fast `nrvs run` is, by the median of the ratios of neighbouring runs.
 
 With --chain the script has LINES such requests (20,000,000), in segments of 65,536, and the plain programs go on from segment to segment
 too. The auditor has to say yes to the chains. Prints the seconds that have passed, those of all processors, and the peaks, of LINES

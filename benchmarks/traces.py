@@ -7,7 +7,7 @@ whole log.
 import os
 import sys
 
-sys.path.insert(0, os.path.join(os.path.dirname(os.path.abspath(__file__)), "..", "tests"))
+sys.path.insert(0, os.path.join(os.path.dirname(os.path.abspath(__file__)), "..", "tests", "drawn"))
 from recording import (ALL, DONE, MAP, MAPPED, NOT_MAPPED, REMOVED, RESOLVE, UNMAP, call, dump, entry, frames, reply,
                        trace)
 

@@ -5,7 +5,7 @@
 //! of the proved program: its log has one version, each replica keeps the entries that it has applied with their answers, and an update
 //! is confirmed by them.
 //! 16,384 pages of 4 KiB are mapped first. Then each thread makes so many calls, of which READS in a hundred are resolves of drawn
-//! addresses, and the rest protects of drawn pages, or with `maps` a map and an unmap, in turn, of one of 128 further pages of its own.
+//! addresses. The rest are protects of drawn pages, or with `maps` a map and an unmap, in turn, of one of 128 further pages of its own.
 //! The log has 65,536 places, so that there may be 49,120 updates in all.
 #[allow(dead_code)]
 #[path = "unverified.rs"]

@@ -143,13 +143,13 @@ enum {
 	NRVS_NOT_FIRST = 19,   /* the base is no multiple of the next larger size than that of the page that begins there [join_refusal,
 				* collapse_refusal] */
 	NRVS_APART = 20,       /* number: the least index, 0 to 511, of an entry of the table that is no page that follows on from the first
-				* [KeepsApart; what follows on: the law entries_follow_on_by_their_parts]; by a collapse of one that has
+				* [KeepsApart; what follows on: the law entries_follow_on_by_their_parts]. By a collapse: of one that has
 				* other rights or attributes than the first, or is no page [IsUnlike] */
 	NRVS_PINNED = 21       /* the pages that are to be joined or collapsed lie in a table that stays, by `pinned` [KeepsTable] */
 };
 
-/* What the processors that use this table have to drop after the last store is carried out: by an invlpg of the base, for a range by one of
- * each of its 512 smaller pages, or by a load of CR3 with bit 63 clear. The README's part "The flush" says when less is enough.
+/* What the processors that use this table have to drop after the last store is carried out. They do so by an invlpg of the base, for a range
+ * by one of each of its 512 smaller pages, or by a load of CR3 with bit 63 clear. The README's part "The flush" says when less is enough.
  */
 enum {
 	NRVS_FLUSH_NOTHING = 0,
@@ -185,14 +185,14 @@ uint32_t nrvs_plan_protect(struct nrvs_plan *plan, const struct nrvs_target *tar
  */
 uint32_t nrvs_plan_remap(struct nrvs_plan *plan, const struct nrvs_target *target, uint64_t base, uint64_t physical, uint32_t rights);
 
-/* Replaces the page that begins at an address by 512 pages of the next smaller size, which translate as it does; asks for an empty frame
+/* Replaces the page that begins at an address by 512 pages of the next smaller size, which translate as it does. Asks for an empty frame
  * [reply, due, put; the law splits_keep_translations]: NRVS_CHANGED (with the rights, which stay), NRVS_INSIDE, NRVS_NOT_MAPPED,
  * NRVS_SMALLEST, NRVS_NO_FRAME, NRVS_FRAME_RANGE.
  */
 uint32_t nrvs_plan_split(struct nrvs_plan *plan, const struct nrvs_target *target, uint64_t base);
 
-/* Replaces 512 pages, the first of which begins at an address, by one page, if they are contiguous in memory and alike except for flags 5
- * and 6 [reply, due, put, fits; the law joins_keep_translations]: NRVS_CHANGED (with the rights, which stay), NRVS_INSIDE, NRVS_NOT_MAPPED,
+/* Replaces 512 pages, the first of which begins at an address, by one page. They have to be contiguous in memory, and alike except for flags
+ * 5 and 6 [reply, due, put, fits; the law joins_keep_translations]: NRVS_CHANGED (with the rights, which stay), NRVS_INSIDE, NRVS_NOT_MAPPED,
  * NRVS_LARGEST, NRVS_NOT_FIRST, NRVS_MISPLACED, NRVS_PINNED, NRVS_APART.
  */
 uint32_t nrvs_plan_join(struct nrvs_plan *plan, const struct nrvs_target *target, uint64_t base);
@@ -203,7 +203,7 @@ uint32_t nrvs_plan_join(struct nrvs_plan *plan, const struct nrvs_target *target
  */
 uint32_t nrvs_plan_prune(struct nrvs_plan *plan, const struct nrvs_target *target, uint64_t address);
 
-/* Removes `count` of the 512 parts of the page of 2 MiB or 1 GiB that begins at an address, from part number `first` on: the result is as
+/* Removes `count` of the 512 parts of the page of 2 MiB or 1 GiB that begins at an address, from part number `first` on. The result is as
  * after a split and an unmap of each of these parts [reply; stepped]. It asks for an empty frame, which is filled with the parts that stay,
  * and linked by one store. So each address is translated as before or as after [put, safe]: NRVS_CHANGED (with the rights, which stay),
  * NRVS_INSIDE, NRVS_NOT_MAPPED, NRVS_SMALLEST, NRVS_NO_FRAME, NRVS_FRAME_RANGE. It is refused with NRVS_BAD_PART, checked after
@@ -212,7 +212,7 @@ uint32_t nrvs_plan_prune(struct nrvs_plan *plan, const struct nrvs_target *targe
 uint32_t nrvs_plan_unmap_part(struct nrvs_plan *plan, const struct nrvs_target *target, uint64_t base, uint64_t first, uint64_t count);
 
 /* Replaces 512 pages, the first of which begins at an address, by one page of the next larger size, at this physical address and with these
- * rights. The 512 pages may lie anywhere, but must have the same rights, and the same attributes except for flags 5 and 6 [reply, due,
+ * rights. The 512 pages may lie anywhere. They have to have the same rights, and the same attributes except for flags 5 and 6 [reply, due,
  * put]: NRVS_CHANGED (with the rights that the first had), NRVS_INSIDE, NRVS_NOT_MAPPED, NRVS_LARGEST, NRVS_NOT_FIRST, NRVS_MISPLACED,
  * NRVS_BEYOND, NRVS_NARROW, NRVS_PINNED, NRVS_APART. What lies at the physical address is up to the caller: it has to have the contents of
  * the pages, and nobody may write to them from the copy until the flush is over. For example, protect and flush them before.
@@ -345,8 +345,8 @@ struct nrvs_run {
 
 /* What comes next, besides NRVS_SEE and NRVS_GIVE [IsRangeStatus; IsRangeNextOf]. */
 enum {
-	/* NRVS_PLANNED: `plan` is the plan of the page at the base alone: it links or unlinks tables, or the page is refused or isn't there;
-	 * of a harvest what nrvs_plan_ask answers of a page that begins before the base [planned] */
+	/* NRVS_PLANNED: `plan` is the plan of the page at the base alone: it links or unlinks tables, or the page is refused or isn't there.
+	 * Of a harvest it is what nrvs_plan_ask answers of a page that begins before the base [planned] */
 	NRVS_RUN = 34,     /* a run of pages from the base on [runs] */
 	NRVS_HARVEST = 35, /* the same, whose exchanges find flags and clear them [harvests] */
 	NRVS_ABSENT = 36,  /* no page has any of the first `covered` bytes, of which there are some; nothing is to be done. They end with an

@@ -4,8 +4,8 @@
     from_memory.py [--levels 4|5] [--part PHYS:LENGTH[:OFFSET]].. IMAGE CR3 >TRACE
 
 IMAGE is a file of the machine's physical memory from address 0 on: what QEMU's monitor command `pmemsave 0 SIZE FILE` wrote, or
-the file of `-object memory-backend-file`. Where the file isn't one run from 0 on (QEMU's PC machines put what doesn't fit
-below 3 or 3.5 GiB at 4 GiB), each --part says that LENGTH bytes at physical PHYS are in the file at OFFSET (else at PHYS).
+the file of `-object memory-backend-file`. The file may be more than one run from 0 on: QEMU's PC machines put what doesn't fit
+below 3 or 3.5 GiB at 4 GiB. Then each --part says that LENGTH bytes at physical PHYS are in the file at OFFSET (else at PHYS).
 CR3 is the register's value: its bits 51:12 are the root, the others (PCID, LAM, no flush) are left out. Numbers are
 decimal, or hexadecimal after 0x. Five levels (CR4.LA57) make a trace of version 2.
 

@@ -1,11 +1,11 @@
 #!/usr/bin/env python3
 """Compares the words that a reader has to believe with what is said of them. Part 1 of docs/DEFINITIONS.md has in words just the definitions
-on which the two headlines rest, and just the types and constants of the code of which these speak, with their variants, fields and values as
-the code declares them. Each other definition on which a clause of a public call rests has a comment of its own above it, which tools/words
+on which the two headlines rest. It also has just the types and constants of which these speak, with their variants, fields and values as the
+code declares them. Each other definition on which a clause of a public call rests has a comment of its own above it, which tools/words
 prints. The faults of DEFINITIONS.md, part 2, and of the man page of explain are those of the code.
 
-Compares the public calls of the libraries and their preconditions with the promises of their crates' READMEs; and each line of code that
-such a README shows at its head with the code of the other crates, so that it is compiled and proved there. The crates of the audit depend
+Compares the public calls of the libraries and their preconditions with the promises of their crates' READMEs. Each line of code that such a
+README shows at its head is a line of another crate too, and so it is compiled and proved there. The crates of the audit depend
 on none of the replication. The tables of CRATES.md list the crates of crates.txt, in its order, each after those on which it depends.
 Each wrong body can be applied: what it replaces is once in its file (`rt ci` passes over one that can't be). Each of those that have to be
 refused is an edit, or PROMISES.md names the tests that refuse it.
@@ -19,6 +19,11 @@ import itertools
 import re
 import sys
 from pathlib import Path
+
+sys.dont_write_bytecode = True
+import folders
+from promises import main_promises, uncompiled, unknown_names, untold
+from wrong_bodies import unrefused_bodies, unusable_edits
 
 ROOT = Path(__file__).resolve().parent.parent
 NAME = re.compile(r"[A-Za-z_][\w'-]*(?:\.[A-Za-z_][\w'-]*)*")
@@ -289,142 +294,8 @@ def listed():
         yield "CRATES.md has {} where crates.txt has {}".format(*next(pair for pair in zip(named, crates) if pair[0] != pair[1]))
 
 
-def public_calls():
-    """Each public function and method of the libraries, worked examples aside: its crate, its type or trait (or None), its name, and
-    whether it has a precondition."""
-    for library in sorted(ROOT.glob("crates/*/src/lib.rt")):
-        crate = library.parent.parent.name
-        if crate.endswith("_tests"):
-            continue
-        text = library.read_text()
-        exported = {name.split(" as ")[-1].strip() for group in re.findall(r"^pub use [\w:]+::(?:\{([^}]*)\}|\w+);", text, re.M)
-                    for name in group.split(",")}
-        exported |= set(re.findall(r"^pub use [\w:]+::(\w+);", text, re.M))
-        open_modules = set(re.findall(r"^pub mod (\w+);", text, re.M))
-        for file in sorted(library.parent.glob("**/*.rt")):
-            if file.stem not in ("tests", "examples"):
-                yield from calls_of(crate, file, exported, file.stem in open_modules)
-
-
-def calls_of(crate, file, exported, is_open):
-    owner, is_trait = None, False
-    text = file.read_text()
-    for item in re.finditer(r"^([ ]*)(pub(?:\(crate\))? |)(?:unsafe |const )*(extern \"C\" )?(fn|impl|trait|struct|enum)\b"
-                            r"(?:<(?:[^{<>]|<[^{<>]*>)*>)? ?([^\n]*)|^\}", text, re.M):
-        indent, visible, for_c, kind, rest = item.groups()
-        if kind is None:
-            owner = None
-        elif kind in ("impl", "trait") and not indent:
-            inherent = " for " not in rest
-            owner = re.match(r"(\w+)", rest)[1] if inherent else ""
-            is_trait = kind == "trait" and visible == "pub "
-        elif kind == "fn" and (visible == "pub " or is_trait and owner and indent):
-            name = re.match(r"(\w+)", rest)[1]
-            if owner == "" or not (owner in exported if owner else name in exported or is_open or for_c):
-                continue
-            head = re.split(r"^\s*\{$|;$", text[item.start():], maxsplit=1, flags=re.M)[0]
-            yield crate, owner, name, re.search(r"^\s*requires\b", head, re.M) is not None
-
-
-def names(cell, owner, name):
-    """Whether an item names the call: `name` or `Owner::name`, and its type or trait somewhere in it."""
-    told = re.findall(r"`([\w:]+)`", cell)
-    if owner is None:
-        return name in told
-    return f"{owner}::{name}" in told or name in told and re.search(rf"`{owner}(::\w+)?`", cell) is not None
-
-
-SECTIONS = ("What is proved", "What is only tested", "What is taken on trust")
-PRECONDITIONS = "Preconditions"
-WIDTH = 140
-HEADLINE_ROWS = 12
-
-
-def items(text):
-    """The items of the lists of a text, each with its further lines, and the rows of its tables."""
-    found, inside = [], False
-    for line in text.splitlines():
-        if line.startswith(("- ", "| ")):
-            found.append(line[2:])
-        elif inside and line.startswith("  "):
-            found[-1] += " " + line.strip()
-        else:
-            inside = False
-            continue
-        inside = line.startswith(("- ", "  "))
-    return found
-
-
-def promises_of(crate):
-    """The promises of the README of a crate, of each section, and the calls of its list of preconditions, item by item."""
-    text = (ROOT / "crates" / crate / "README.md").read_text()
-    sections = {part.partition("\n")[0]: part for part in text.split("\n## ")[1:]}
-    promises, preconditions = {}, []
-    for name in SECTIONS:
-        promises[name] = []
-        for part in sections.get(name, "").split("\n### "):
-            if part.startswith(PRECONDITIONS):
-                preconditions += [item.partition(": ")[0] for item in items(part)]
-            else:
-                promises[name] += items(part)
-    return [name for name in SECTIONS if name not in sections], sum(promises.values(), []), preconditions
-
-
-def untold():
-    """The public calls that no promise of their crate's README names, and what its list of preconditions lacks or has beside."""
-    calls = {}
-    for crate, owner, name, has_premise in public_calls():
-        calls.setdefault(crate, []).append((owner, name, has_premise))
-    for crate, those in calls.items():
-        lacking, promises, preconditions = promises_of(crate)
-        for name in lacking:
-            yield f"the README of {crate} has no section {name}"
-        for owner, name, has_premise in those:
-            call = f"{owner}::{name}" if owner else name
-            if not any(names(item, owner, name) for item in promises):
-                yield f"no promise of the README of {crate} names {call}"
-            if has_premise and not any(names(item, owner, name) for item in preconditions):
-                yield f"the preconditions of {crate} lack {call}"
-            if not has_premise and any(f"{owner}::{name}" in item if owner else names(item, owner, name) for item in preconditions):
-                yield f"the preconditions of {crate} have {call}, which has none"
-
-
-def unknown_names():
-    """The names in the promises of a crate's README that no source and no test has, and the paths that lead nowhere."""
-    patterns = ("crates/*", "crates/*/src/**/*.rt", "crates/*/specs/**/*.antt", "crates/*/must-fail/*", "include/*.h", "tests/*",
-                "tests/cases/*")
-    files = [path for pattern in patterns for path in ROOT.glob(pattern)]
-    known = {path.name for path in files} | {path.stem for path in files} | {path.parent.name for path in files}
-    for path in files:
-        if path.is_file():
-            known.update(re.findall(r"\w+", path.read_text(errors="replace")))
-    for readme in sorted(ROOT.glob("crates/*/README.md")):
-        promised = re.sub(r"\s+", " ", readme.read_text().partition("\n## ")[2])
-        for name in sorted(set(re.findall(r"`([^`\s]+)`", promised))):
-            is_path = "/" in name
-            if is_path and not (ROOT / name).exists() and not (readme.parent / name).exists() and name != "must-fail/":
-                yield f"{readme.relative_to(ROOT)} names a path that leads nowhere: {name}"
-            elif re.fullmatch(r"[A-Za-z_]\w*(::\w+)*", name) and not set(name.split("::")) <= known:
-                yield f"{readme.relative_to(ROOT)} has a name that no source has: {name}"
-
-
-def main_promises():
-    """What is wrong with PROMISES.md, and with the length of its lines and of the crates' READMEs."""
-    page = ROOT / "docs/PROMISES.md"
-    text = page.read_text()
-    rows = sum(line.startswith("| ") for line in text.splitlines()) - 1
-    if rows > HEADLINE_ROWS:
-        yield f"PROMISES.md has {rows} rows, of {HEADLINE_ROWS} at most"
-    if re.search(r"^\|.*\]\(?.*crates/", text, re.M):
-        yield "PROMISES.md has a row of one crate, whose promise CRATES.md has"
-    for file in [page, *sorted(ROOT.glob("crates/*/README.md"))]:
-        for number_, line in enumerate(file.read_text().splitlines(), 1):
-            if len(line) > WIDTH:
-                yield f"{file.relative_to(ROOT)}:{number_} has {len(line)} columns, of {WIDTH} at most"
-
-
 def told_faults():
-    """What DEFINITIONS.md has otherwise than the code of the faults, which are numbered as they are declared; and the faults that a table of
+    """What DEFINITIONS.md has otherwise than the code of the faults, which are numbered as they are declared. And the faults that a table of
     the man page of explain lacks, and those that it has beside: each has its lines, sentence and members."""
     rows = re.findall(r"^\| (\d+) \| `(\w+)", (ROOT / "docs/DEFINITIONS.md").read_text(), re.M)
     declared = parts_of_type("Fault", ROOT / "crates/nr_trace/src/fault.rt")
@@ -443,81 +314,6 @@ def told_faults():
     for name, rows in tables.items():
         if sorted({*rows}) != sorted(declared):
             yield f"nrvs-explain.1.md, {name}: {' '.join(sorted({*rows} ^ {*declared}))}"
-
-
-def squeezed(code):
-    """Code without its comments, its spaces, and the commas that only a line break asks for."""
-    return re.sub(r",(?=[)\]}]|$)", "", re.sub(r"\s+", "", re.sub(r"//.*", "", code)))
-
-
-def uncompiled():
-    """The lines of Rattle that the README of a library shows at its head, and that the code of no other crate has."""
-    code = {}
-    for file in ROOT.glob("crates/*/src/**/*.rt"):
-        crate = file.relative_to(ROOT / "crates").parts[0]
-        code[crate] = code.get(crate, "") + squeezed(file.read_text()) + "\n"
-    for library in sorted(ROOT.glob("crates/*/src/lib.rt")):
-        crate = library.parent.parent.name
-        if crate.endswith(("_tests", "_c")):
-            continue
-        head = (library.parent.parent / "README.md").read_text().partition("\n## ")[0]
-        for line in re.findall(r"^ {4}(.*)$", head, re.M):
-            if squeezed(line) and not any(squeezed(line) in text for other, text in code.items() if other != crate):
-                yield f"the README of {crate} shows a line that no other crate has: {line.strip()}"
-
-
-def unusable_edits():
-    """The wrong bodies that say nothing, since what they replace isn't in the file that they name, or is there more than once."""
-    for edit in sorted(ROOT.glob("crates/*/must-fail/*")):
-        texts, file, old = {}, None, None
-        for line in edit.read_text().splitlines():
-            if line.startswith("file: "):
-                file = edit.parent.parent / line.removeprefix("file: ").strip()
-            elif line.startswith("old: "):
-                old = line.removeprefix("old: ")
-            elif line.startswith("new:") and file and old:
-                text = texts.get(file) or (file.read_text() if file.is_file() else "")
-                if text.count(old) != 1:
-                    yield f"{edit.relative_to(ROOT)}: what it replaces is {text.count(old)} times in {file.name}: {old}"
-                texts[file] = text.replace(old, line.removeprefix("new:").removeprefix(" "))
-        if edit.suffix != ".edit" or not texts:
-            yield f"{edit.relative_to(ROOT)} is no wrong body"
-
-
-# The wrong bodies that have to be refused.
-WRONG_BODIES = """
-floor_of_answered_updates_only read_position_taken_as_place one_call_at_two_places rights_of_leaf_alone unused_field_accepted
-check_only_pages_of_space empty_table_kept append_over_unfetched_entry repeated_entry_dropped stamps_in_blocks completed_raised_later
-workers_on_one_thread always_out_of_memory always_no yes_with_empty_order replica_at_zero_passed always_moved read_from_lagging_replica
-read_of_empty_space done_to_every_map look_without_load meet_without_effect update_always_stopped freed_words_given_back step_always_false
-stamp_under_mutex run_always_refused reserved_log_bits_accepted one_node_for_all_replicas invented_answer run_without_calls
-settle_with_nothing run_steps_takes_no_step table_beside_the_replicas
-""".split()
-CANT_BE_WRITTEN = {"stamp_under_mutex": ("crates/nr_record/src/pen.rt", r"\bWait\b|\bMutex\b")}
-
-
-def test_names():
-    """The tests of the test crates, and the cases."""
-    code = [path.read_text() for path in ROOT.glob("crates/*_tests/src/**/*.rt")]
-    return {name for text in code for name in re.findall(r"#\[test\]\s+fn (\w+)", text)} | {path.name for path in ROOT.glob("tests/cases/*")}
-
-
-def unrefused_bodies():
-    """The wrong bodies that no edit makes, and for which PROMISES.md names no test that there is."""
-    edits = {edit.stem for edit in ROOT.glob("crates/*/must-fail/*.edit")}
-    section = (ROOT / "docs/PROMISES.md").read_text().partition("## Wrong bodies that tests refuse")[2].partition("\n## ")[0]
-    known, refused = test_names(), set()
-    for item in section.split("\n- ")[1:]:
-        named = re.findall(r"`(\w+)`", item)
-        bodies = [name for name in named if name in WRONG_BODIES]
-        tests = [name for name in named if name not in WRONG_BODIES]
-        yield from (f"PROMISES.md: {name} is a wrong body's test, and there is no such test" for name in tests if name not in known)
-        if tests or set(bodies) <= set(CANT_BE_WRITTEN):
-            refused.update(bodies)
-    yield from (f"no edit and no test refuses the wrong body {name}" for name in WRONG_BODIES if name not in edits | refused)
-    for name, (file, could) in CANT_BE_WRITTEN.items():
-        if re.search(could, (ROOT / file).read_text()):
-            yield f"the wrong body {name} could be written now: {file}"
 
 
 def read_aloud(text):

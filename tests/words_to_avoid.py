@@ -1,7 +1,7 @@
 #!/usr/bin/env python3
-"""Counts the words of words_to_avoid.txt, in the docs and in the comments of all else that is written here; and sentences that are too
-long: of more than 30 words in README.md and docs/RECORDING.md, of more than 35 in the other pages, and of more than 25 on average in any
-page. Nor may a sentence of a page begin with `Of`, `Who`, `Whose`, or `Where`, unless it asks. Code is none of these: what is in
+"""Counts the words of words_to_avoid.txt, in the docs and in the comments of all else that is written here. In pages it also counts sentences
+that are too long: of more than 30 words in README.md and docs/RECORDING.md, and of more than 35 in others. On average a page has 25 at most.
+Nor may a sentence of a page begin with `Of`, `Who`, `Whose`, or `Where`, unless it asks. Code is none of these: what is in
 backquotes, and blocks of it. Nor are brackets that only cite clauses.
 
 Prints each place, and ends with how many files have none and how many have some. With --averages it prints how many words a sentence of

@@ -12,8 +12,8 @@ from ways import Step, path_address, step_words
 
 @dataclasses.dataclass
 class Evidence:
-    """What is said and marked: facts, calls with what they are, other events, places, and entries of a dump; the address that the
-    fault names, and how many entries of the log come before what is wrong; and the sentence."""
+    """What is said and marked: facts, calls with what they are, other events, places, and entries of a dump. Also the address that the
+    fault names, how many entries of the log come before what is wrong, and the sentence."""
     facts: list = dataclasses.field(default_factory=list)
     calls: dict = dataclasses.field(default_factory=dict)
     events: list = dataclasses.field(default_factory=list)

@@ -1,5 +1,5 @@
-/* What becomes of the slots' pages, by two processors at once: each changes slots of its own, whose accesses are compared with what it did,
- * and both change some that nobody keeps a list of: what is answered there, and found, the auditor judges. All is recorded as one chain.
+/* What becomes of the slots' pages, by two processors at once. Each changes slots of its own, whose accesses are compared with what it did.
+ * Both also change some that nobody keeps a list of: the auditor judges what is answered there, and found. All is recorded as one chain.
  */
 #ifndef UPDATES_H
 #define UPDATES_H
@@ -14,8 +14,8 @@ void updates_begin(unsigned levels, int is_sent);
 /* One change of a changer, or one look at an address. */
 void updates_make(unsigned processor, uint64_t *seed);
 
-/* While the other processors are held, so that their nodes apply nothing by themselves: each is seen to learn of a map by a fault, and to
- * have heard of an unmap once that is answered; and a full ring is met. Those accesses are made that are wished.
+/* While the other processors are held, so that their nodes apply nothing by themselves. Each is seen to learn of a map by a fault, and to
+ * have heard of an unmap once that is answered. A full ring is met too. Those accesses are made that are wished.
  */
 void updates_stall(uint64_t *seed);
 extern struct wish updates_wish;

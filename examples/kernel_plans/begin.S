@@ -1,4 +1,4 @@
-/* From QEMU's -kernel to C: on the first processor over an address space of 4 GiB that is left behind, on the others by a trampoline at
+/* From QEMU's -kernel to C. The first processor comes over an address space of 4 GiB that is left behind, the others by a trampoline at
  * 0x8000, over the address space that the kernel has made by then. The levels are the first letter of the command line, since CR4.LA57
  * can't change while paging is on. Then accesses that may fault, and the two handlers, which ask C what to do. The kernels of
  * examples/kernel_plans and examples/kernel_nodes begin here.

@@ -1,6 +1,6 @@
 /* What becomes of the pages of two address spaces, one change at a time, and how it is recorded: a chain for each space. A chain has maps,
- * unmaps and protects: a remap is an unmap and a map, a split an unmap and 512 maps, a join the other way round, all of which are open
- * from before the first store until after the flush.
+ * unmaps and protects: a remap is an unmap and a map, a split an unmap and 512 maps, a join the other way round. All of these are
+ * open from before the first store until after the flush.
  */
 #ifndef CHANGES_H
 #define CHANGES_H

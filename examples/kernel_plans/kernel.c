@@ -77,7 +77,7 @@ static void cut(void)
 	processors_release();
 }
 
-/* Two changes of one slot, between which the processors make no access, so that a page that was just mapped is not accessed yet; they are
+/* Two changes of one slot, between which the processors make no access, so that a page that was just mapped is not accessed yet. They are
  * released when the second one's words were shown, and set flags before its stores.
  */
 static void change_twice(uint64_t *seed)

@@ -1,6 +1,6 @@
 /* What is recorded: a chain of the lower half, by recorders/nrvs_trace.h, of its changes and of accesses as touches. A chain has maps,
- * unmaps and protects: a remap is an unmap and a map, a split an unmap and 512 maps, a join the other way round, all of which are open
- * from before the first store until after the flush. It leaves by an I/O port, QEMU's debug console.
+ * unmaps and protects: a remap is an unmap and a map, a split an unmap and 512 maps, a join the other way round. All of these are
+ * open from before the first store until after the flush. It leaves by an I/O port, QEMU's debug console.
  */
 #ifndef RECORD_H
 #define RECORD_H

@@ -50,6 +50,8 @@ mod page;
 mod plan;
 #[cfg(feature = "plans")]
 mod range;
+#[cfg(feature = "plans")]
+mod request;
 mod table;
 
 #[cfg(feature = "audit")]

@@ -6,8 +6,8 @@ use crate::page::{Access, Depth, Frame, Mapping, Mark, Mode, Page, Rights, Size}
 /// A page table in frames that are lent to it. As it ends, the frames keep what is then in them.
 ///
 /// Frame number `base + i` is `frames[i]`: where the first frame lies at the physical address `base * 4096`, a processor walks the
-/// table from `root() * 4096` in CR3, and may set its flags there between calls, and while calls run that only ask (what is said of a
-/// call during which a flag is set is in include/nrvs.h).
+/// table from `root() * 4096` in CR3. It may set its flags there between calls, and while calls run that only ask. What is said of a
+/// call during which a flag is set is in include/nrvs.h.
 #[derive(Debug)]
 pub struct PageTable<'a> {
     handle: ffi::Table,
@@ -64,7 +64,7 @@ impl<'a> PageTable<'a> {
         self.frames
     }
 
-    /// Clears the accessed and the dirty flag (bits 5 and 6) of a word that is present, and gives the word as it was: the word at an index
+    /// Clears the accessed and the dirty flag (bits 5 and 6) of a word that is present, and gives the word as it was. It is the word at an index
     /// below 512, of the frame at an index of `frames()`. No flag that a processor sets meanwhile is lost. What the processor keeps has
     /// to be invalidated before it sets a flag again that it has set once.
     pub fn clear_flags(&mut self, frame: usize, index: usize) -> u64 {

@@ -1,8 +1,8 @@
-/* All schedules of two and three nodes, one operation at a time, of a plain model of the protocol with a small ring, so that entries are
- * overwritten and nodes lag; and of the machine beside that model, with rings that are nearly full: both ask for the same.
+/* All schedules of two and three nodes, one operation at a time, of a plain model of the protocol. Its ring is small, so that entries are
+ * overwritten and nodes lag. The machine goes through them beside that model, with rings that are nearly full: both ask for the same.
  *     schedules [MISTAKE]
  * Each node applies the one log, in order, each entry once; each update is answered at its place; a call that ended before another began
- * comes first; nobody is done with what it hasn't applied; what ended is completed; and each node alone ends its call, from wherever the
+ * comes first. Nobody is done with what it hasn't applied, and what ended is completed. Each node alone ends its call, from wherever the
  * others stopped, or names one that leaves its updates no room. With a planted mistake one of this is found to fail.
  */
 #include "plain_model.h"

@@ -1,10 +1,10 @@
 /* An address space on several nodes: each has a page table of nrvs.h in frames of its own, and changes all tables through one log. Threads
  * map, unmap and protect drawn pages, and translate addresses; the run is recorded, and its trace written to standard output.
- * space THREADS NODES CALLS SEED [SLIP]: a mistake that the trace must show, and that is met at the end at the latest: no-sync, a read that
- * takes its node as it is; twice, the last node applies each eighth entry twice, and an unmap of its own; lost, it does not apply the last
- * entry
- * space drawn SEED: 2 to 64 threads on 1 to 8 nodes, on 1 to all of the processors, where threads stop for a moment while they apply entries
- * and after they have loaded what is completed. A trace has four tables at most: node n is its replica n % 4. The first four nodes are
+ * space THREADS NODES CALLS SEED [SLIP]: a mistake that the trace must show, and that is met at the end at the latest. It is no-sync, a read
+ * that takes its node as it is; twice, the last node applies each eighth entry twice, and an unmap of its own; or lost, it does not apply
+ * the last entry.
+ * space drawn SEED: 2 to 64 threads on 1 to 8 nodes, on 1 to all of the processors. Threads stop for a moment while they apply entries, and
+ * after they have loaded what is completed. A trace has four tables at most: node n is its replica n % 4. The first four nodes are
  * dumped, and each other one has to answer as they do. Status 3 after ten minutes.
  */
 #define _GNU_SOURCE

@@ -1,5 +1,5 @@
-/* A process that is stopped for good, at each kind of operation, before it and after it: the others, over the same memory, go on until they
- * are 16 entries ahead of its node; then that node is named, and reads on other nodes still end. Where the process goes on, all calls end.
+/* A process that is stopped for good, at each kind of operation, before it and after it. The others, over the same memory, go on until they
+ * are 16 entries ahead of its node. Then that node is named, and reads on other nodes still end. Where the process goes on, all calls end.
  */
 #define _GNU_SOURCE
 #include <nrvs_nodes.h>

@@ -1,5 +1,5 @@
 /* Drawn calls. Each plan is that of the second planner, is answered as a plain list of pages is, and is carried out in a memory whose
- * frames lie anywhere; before and after each of its stores a processor walks at drawn addresses, sets flags, and keeps what it found; after
+ * frames lie anywhere. Before and after each of its stores a processor walks at drawn addresses, sets flags, and keeps what it found. After
  * the flush nothing that is kept leads elsewhere than the memory. Where pages were split, it is tried to join them again, or to put a page
  * elsewhere in their place. In one of two calls the flush comes later, after more calls: all flushes then, and the frames are freed.
  */

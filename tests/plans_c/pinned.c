@@ -1,4 +1,4 @@
-/* Where each table stays (`pinned` 1 or 2) a plan looks at the entries on its walk alone, and at each once: of each frame that is shown
+/* Where each table stays (`pinned` 1 or 2) a plan looks at the entries on its walk alone, and at each once. Of each frame that is shown
  * only the word of that entry can be read, so any other look ends the program.
  */
 #define _DEFAULT_SOURCE

@@ -1,4 +1,6 @@
-/* Plans in plain C, written from docs/FORMATS.md and nrvs_plan.h: the second model of tests/plans. */
+/* Plans in plain C, written from docs/FORMATS.md and nrvs_plan.h: the second model of tests/plans. It is one file, so that nothing of it can
+ * be seen but its calls.
+ */
 #include "reference.h"
 
 #include <string.h>

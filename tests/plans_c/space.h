@@ -26,8 +26,8 @@ struct answered {
 struct answered space_map(struct space *space, struct page page);
 struct answered space_unmap(struct space *space, uint64_t base);
 struct answered space_protect(struct space *space, uint64_t base, unsigned rights);
-/* The page leads to another physical address, with these rights, where addresses have so many bits; 512 pages are in its place; it is in
- * the place of 512, where these follow on from each other, as far as the list has it: their attributes but for the flags are the same.
+/* The page leads to another physical address, with these rights, where addresses have so many bits; 512 pages are in its place; or it is in
+ * the place of 512. These follow on from each other, as far as the list has it, and their attributes but for the flags are the same.
  */
 struct answered space_remap(struct space *space, uint64_t base, uint64_t physical, unsigned rights, unsigned phys_bits);
 struct answered space_split(struct space *space, uint64_t base);

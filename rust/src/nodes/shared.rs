@@ -90,7 +90,7 @@ impl Drop for Alarm<'_> {
 /// Up to 64 nodes, each with a state under a lock of its own.
 ///
 /// Whoever calls names the node on which he runs. A call waits for that node's lock. An update of u entries waits for other nodes too,
-/// where one of them is 17 - u entries or more behind, so that the ring has no room: then it has that one take entries, or waits for
+/// where one of them is 17 - u entries or more behind, so that the ring has no room. Then it has that one take entries, or waits for
 /// whoever has its lock. So a thread that was stopped at one node holds up no other until an update needs its node's room.
 ///
 /// A closure of `read` may panic: the state is as it was, and all calls go on. Where `State::apply` panics, its node is lost: each later

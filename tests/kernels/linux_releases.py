@@ -22,7 +22,7 @@ from linux_kernels import made_types
 from plants import PLANTS, Silenced
 from recording import ALL, DONE, MAP, READS, REMOVED, UNMAP, call, reply
 
-KEPT = f"{os.path.dirname(os.path.dirname(os.path.abspath(__file__)))}/examples/linux/kept/chains"
+KEPT = f"{os.path.dirname(os.path.dirname(os.path.dirname(os.path.abspath(__file__))))}/examples/linux/kept/chains"
 
 # A process that has a page at 0x5000, which is frame 9, when recording begins.
 START = """@born 1 10

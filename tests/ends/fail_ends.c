@@ -1,6 +1,6 @@
 /* Preloaded into the program: reads of standard input that fail, fall short or are interrupted, and writes that do. The read whose
-   number, from 1, is in FAIL_READ gives an error; so does the one at the byte FAIL_AT, before which reads stop, and the write to
-   standard output whose number is in FAIL_WRITE, after which writes pass again. No read gives more than SHORT_READ bytes, and no
+   number, from 1, is in FAIL_READ gives an error; so does the one at the byte FAIL_AT, before which reads stop. The write to standard
+   output whose number is in FAIL_WRITE gives one too, and writes behind it pass again. No read gives more than SHORT_READ bytes, and no
    write takes more than SHORT_WRITE. Each read or write that moves bytes comes after as many interrupted ones as INTERRUPTS says. Each
    read, of any file, takes SLOW_READ microseconds more. */
 #define _GNU_SOURCE

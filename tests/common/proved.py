@@ -1,8 +1,8 @@
 #!/usr/bin/env python3
 """What `rt ci` has proved whole in this checkout, so that `tests/run --kept` needs no second run of it.
 
-    tests/proved.py keep GATE   keeps the gate's output, and the sums of what it read, and of what it and tests/archives built
-    tests/proved.py holds       status 0 where all of that is, byte for byte, as it was kept
+    tests/common/proved.py keep GATE   keeps the gate's output, and the sums of what it read, and of what it and tests/archives built
+    tests/common/proved.py holds       status 0 where all of that is, byte for byte, as it was kept
 
 `rt ci` reads the code, definitions, proofs and edits of the crates, crates.txt, HANDLES and the logic of the kit. What is built over it are
 the programs and archives that the other tests run. Both are kept in out/proved.
@@ -14,7 +14,7 @@ import shutil
 import subprocess
 import sys
 
-TOP = os.path.dirname(os.path.dirname(os.path.abspath(__file__)))
+TOP = os.path.dirname(os.path.dirname(os.path.dirname(os.path.abspath(__file__))))
 KEPT = "out/proved"
 
 

@@ -12,7 +12,7 @@ import mappings
 import model_pages
 from counting import check
 
-ROOT = os.path.dirname(os.path.dirname(os.path.abspath(__file__)))
+ROOT = os.path.dirname(os.path.dirname(os.path.dirname(os.path.abspath(__file__))))
 KEPT = f"{ROOT}/examples/linux/kept"
 ENDS = {"--start": model_pages.shown_start, "--end": model_pages.shown_end}
 

@@ -1,14 +1,14 @@
 """Right chains, drawn: segments of a replicated address space with touches, and what is to be said of each.
 
-Nothing of the second auditor is used here, which is compared with this: a space is a dictionary of pages of which each call looks at
-all (recording.py), every moment of a segment is kept, and the moments from which a touch may be answered are those of all that fit.
+Nothing of the second auditor is used here, which is compared with this. A space is a dictionary of pages of which each call looks at
+all (recording.py). Every moment of a segment is kept, and the moments from which a touch may be answered are those of all that fit.
 """
 import struct
 from dataclasses import dataclass, field
 from typing import NamedTuple
 
 import recording
-from recording import ACCESS, BYTES, EXEC, MAP, PROTECT, RESOLVE, UNMAP, Space
+from recording import ACCESS, BYTES, MAP, PROTECT, RESOLVE, UNMAP, Space
 
 TOUCH, RELEASE = 5, 6
 REGIONS = {4: [0, 0x7f8000000000, 0xffff800000000000, 0xffffff8000000000],
@@ -108,8 +108,8 @@ def takes_away(before, after):
 
 
 class Run(NamedTuple):
-    """The segments up to one as one run: a space after each number of its entries, and of each entry when it was called and answered, by
-    events of the last segment: -1 where that was before, and None where it never was. `before` entries are of the segments before it."""
+    """The segments up to one as one run: a space after each number of its entries, and of each entry when it was called and answered. These
+    are events of the last segment: -1 where it was before, and None where it never was. `before` entries are of the segments before it."""
     spaces: list[Space]
     entries: list[tuple]
     before: int

@@ -1,6 +1,6 @@
 #!/usr/bin/env python3
 """What shows a fault of a chain, computed a second time in plain Python beside `model_chains.py`: written from docs/FORMATS.md and
-docs/man alone, to compare with. What a segment shares with a trace is tests/model_evidence.py's.
+docs/man alone, to compare with. What a segment shares with a trace is tests/models/model_evidence.py's.
 
     model_chain_evidence.py [--json] <CHAIN     what `nrvs explain --chain` prints, with its status
 """

@@ -1,4 +1,6 @@
 """How tests in Python count: `check` prints what failed, `skip` what a machine lacks; `counts` prints the last line of all."""
+import subprocess
+
 passed = failed = 0
 LONGEST = 400
 
@@ -11,6 +13,12 @@ def check(name: str, fine: object, *said: object) -> None:
     else:
         failed += 1
         print(": ".join([f"failed: {name}", *(str(each)[:LONGEST] for each in said if each != "")]))
+
+
+def said_by(words: list[str], data: bytes) -> tuple[str, str, int]:
+    """Standard output, standard error and the status of a command that reads these bytes."""
+    done = subprocess.run(words, input=data, capture_output=True)
+    return done.stdout.decode(), done.stderr.decode(), done.returncode
 
 
 def skip(what: str) -> None:

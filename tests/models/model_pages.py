@@ -2,7 +2,7 @@
 """A second implementation of `nrvs pages`, in plain Python: written from docs/FORMATS.md and docs/man alone, to compare
 with.
 
-What a trace spells and what an entry means is tests/model_auditor.py's, and how a chain is judged tests/model_chains.py's. The tables are
+What a trace spells and what an entry means is tests/models/model_auditor.py's, and how a chain is judged tests/models/model_chains.py's. The tables are
 gone through from the highest entry down, and what is found is sorted.
 
     model_pages.py [--ranges] [--replica N] <TRACE              what `nrvs pages` prints, with its status
@@ -12,7 +12,7 @@ import sys
 
 import model_auditor as traces
 import model_chains as chains
-from model_auditor import Fault, SIZES, SIZE_NAMES
+from model_auditor import Fault, SIZES, SIZE_NAMES, letters
 
 
 def first_fault(trace, dump):
@@ -52,10 +52,6 @@ def pages_of(trace, dump):
                 else:
                     left.append((where >> 12, level - 1, start, rights & own))
     return sorted(pages)
-
-
-def letters(rights):
-    return "".join(letter if rights >> bit & 1 else "-" for bit, letter in enumerate("wux"))
 
 
 def line_of(page):

@@ -21,7 +21,7 @@ from many import Run
 from plants import PLANTS, Plant
 from programs import PROGRAMS
 
-ROOT = os.path.dirname(os.path.dirname(os.path.abspath(__file__)))
+ROOT = os.path.dirname(os.path.dirname(os.path.dirname(os.path.abspath(__file__))))
 LINUX = f"{ROOT}/examples/linux"
 
 

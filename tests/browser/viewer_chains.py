@@ -15,7 +15,7 @@ import planted_faults
 import viewer_browser
 from counting import check
 
-HERE = os.path.dirname(os.path.abspath(__file__))
+TESTS = os.path.dirname(os.path.dirname(os.path.abspath(__file__)))
 SEGMENTS = 3
 BROWSED = ("stale_touch.chain", "begins_with_a_page_and_denies_it", "start_with_a_shared_table", "start_with_a_stray_frame", "two_segments",
            "second_begins_elsewhere", "touch_of_a_page", "no_bytes", "release_while_the_unmap_is_open", "release_of_a_part_of_a_large_page")
@@ -28,11 +28,11 @@ def read(path):
 
 def chains():
     """Each chain with its name: the worked ones, and one for each fault in each segment that may have it."""
-    for row in open(f"{HERE}/chains/EXPECTED"):
+    for row in open(f"{TESTS}/chains/EXPECTED"):
         if not row.startswith("#"):
             name = row.split("\t")[0]
-            yield name, read(f"{HERE}/chains/{name}.chain")
-    yield "stale_touch.chain", read(f"{HERE}/../examples/stale_touch.chain")
+            yield name, read(f"{TESTS}/chains/{name}.chain")
+    yield "stale_touch.chain", read(f"{TESTS}/../examples/stale_touch.chain")
     for k in range(SEGMENTS):
         yield f"right {k}", drawn_chains.spelled(drawn_chains.chain(random.Random(k), k + 1))
         for name in (*planted_faults.FORMATS, *planted_faults.PLANTS):

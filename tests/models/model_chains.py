@@ -1,7 +1,7 @@
 #!/usr/bin/env python3
 """A second auditor of chains, in plain Python: written from docs/FORMATS.md and docs/DEFINITIONS.md alone, to compare with.
 
-A chain is segments, one behind the other; what a segment shares with a trace is tests/model_auditor.py's.
+A chain is segments, one behind the other; what a segment shares with a trace is tests/models/model_auditor.py's.
 
     model_chains.py [--quiet] <CHAIN        what `nrvs audit --chain` prints, with its status
 """

@@ -13,7 +13,7 @@ import time
 
 import model_pages
 
-TESTS = os.path.dirname(os.path.abspath(__file__))
+TESTS = os.path.dirname(os.path.dirname(os.path.abspath(__file__)))
 CHAINS = os.path.join(TESTS, "chains")
 TRACE = os.path.join(TESTS, "..", "examples", "map_then_resolve.trace")
 LENGTHS = (1, 7, 4095, 4096, 4097)
@@ -57,7 +57,7 @@ class Program:
     def __init__(self, path, work):
         self.path, self.work = path, work
         for shim in ("fail_ends", "refuse_growth"):
-            subprocess.run(["cc", "-O1", "-shared", "-fPIC", "-o", f"{work}/{shim}.so", f"{TESTS}/{shim}.c"], check=True)
+            subprocess.run(["cc", "-O1", "-shared", "-fPIC", "-o", f"{work}/{shim}.so", f"{TESTS}/ends/{shim}.c"], check=True)
 
     def words(self, *more):
         return [self.path, *more] if more[:1] == ("pages",) else [self.path, "audit", *(more or ("--chain",))]

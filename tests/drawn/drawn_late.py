@@ -441,4 +441,5 @@ def main(count="1000", first="0", program=None):
 
 
 if __name__ == "__main__":
+    sys.path.append(f"{sys.path[0]}/../models")
     sys.exit(main(*sys.argv[1:]))
