@@ -130,8 +130,8 @@ VALUE(NRVS_FORMAT_EVENT, 5);
 VALUE(NRVS_FORMAT_FRAME, 6);
 VALUE(NRVS_FORMAT_TRAILING, 7);
 
-/* Nodes: what is asked for and its word, `said_of`, `said_of_word` of crates/nrvs_nodes_c/specs/Said.antt; refusals, `refusal_code` there and
- * `NO_NODE` of crates/nrvs_nodes_c/src/codes.rt; limits, `NODES` and `RING` of crates/nr_machine/src/words.rt.
+/* Nodes: what is asked for and its word, `numbers_of`, `numbers_of_word` of crates/nrvs_nodes_c/specs/Numbers.antt; refusals, `refusal_code`
+ * there and `NO_NODE` of crates/nrvs_nodes_c/src/codes.rt; limits, `NODES` and `RING` of crates/nr_machine/src/words.rt.
  */
 VALUE(NRVS_NODE_DONE, 0);
 VALUE(NRVS_NODE_LOAD, 1);

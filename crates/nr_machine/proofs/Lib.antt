@@ -7,10 +7,13 @@ pub mod Ending
 pub mod Stated
 pub mod Run
 pub mod Spending
+pub mod Still
 pub mod Told
+pub mod Heads
 pub mod Loaded
 pub mod Fitting
 pub mod Refusals
 pub mod Moves
 pub mod Makes
+pub mod Tests
 pub mod Example

@@ -5,6 +5,7 @@ use Rattle.std.proofs.lemmas.Bool.Decides.{nat_tests}
 use Rattle.nr_machine.specs.declared.node.Node.{Node}
 use Rattle.nr_machine.specs.declared.words.Update.{Update}
 use Rattle.nr_machine.specs.Bound.{Spends, attempt_of, left, price, total, wants_at}
+use Rattle.nr_machine.specs.Fields.{batch_of}
 
 pub attempt_most : (nodes : ℕ) (updates : List Update) → attempt_of nodes updates ≤ nodes + 2 * length updates + 1
 attempt_most nodes [] = omega arith
@@ -85,7 +86,7 @@ pub spent_in_all : (machine : ℕ → Node) (lagged : ℕ → ℕ) (count : ℕ)
     ≤ left (machine 0) + price (machine 0) * ((machine count).seen - (machine 0).seen) + ((machine 0).nodes + 2) * total lagged count
 spent_in_all machine lagged count spends = (within count (omega arith)).3 where
   Within : ℕ → Type 0
-  Within k = ((machine k).nodes ≡ (machine 0).nodes) × ((machine k).batch.items ≡ (machine 0).batch.items)
+  Within k = ((machine k).nodes ≡ (machine 0).nodes) × (batch_of (machine k) ≡ batch_of (machine 0))
       × ((machine 0).seen ≤ (machine k).seen)
       × (k + left (machine k)
       ≤ left (machine 0) + price (machine 0) * ((machine k).seen - (machine 0).seen) + ((machine 0).nodes + 2) * total lagged k)
@@ -121,7 +122,7 @@ spent_in_all machine lagged count spends = (within count (omega arith)).3 where
             (step k (left (machine k)) (left (machine (k + 1))) (price (machine k)) (price (machine 0)) (machine k).nodes (machine 0).nodes
             (lagged k) (total lagged k)
             (machine 0).seen (machine k).seen (machine (k + 1)).seen (left (machine 0))
-            (ap (λ (m : ℕ). attempt_of m (machine k).batch.items + 6) nodes
+            (ap (λ (m : ℕ). attempt_of m (batch_of (machine k)) + 6) nodes
             ∙ ap (λ (us : List Update). attempt_of (machine 0).nodes us + 6) batch)
             nodes seen next.seen so_far next.spent),
       )

@@ -1,9 +1,10 @@
 -- How many operations a machine asks for at most, and how many entries, until its call is over.
 use Rattle.std.specs.Prelude.{◌≡◌, ℕ, zero, suc, ◌+◌, ◌-◌, ◌*◌, ◌≤◌, nat_lt, Bool, false, if◌then◌else◌, Option, Some, None, List, [], ◌∷◌, length}
 use Rattle.nr_machine.specs.declared.node.Node.{Node}
-use Rattle.nr_machine.specs.declared.node.Phase.{Phase}
-use Rattle.nr_machine.specs.declared.node.Phase.TheVariants as phases
+use Rattle.nr_machine.specs.declared.phase.Phase.{Phase}
+use Rattle.nr_machine.specs.declared.phase.Phase.TheVariants as phases
 use Rattle.nr_machine.specs.declared.words.Update.{Update}
+use Rattle.nr_machine.specs.Fields.{batch_of, phase_of, standing_of}
 
 -- the updates of its call aren't in the log yet
 abbrev pub wants_at : Option ℕ → ℕ → Bool
@@ -12,7 +13,7 @@ wants_at (Some first) count = false
 
 -- its call has updates that are not in the log yet
 abbrev pub wants : Node → Bool
-wants node = wants_at node.standing (length node.batch.items)
+wants node = wants_at (standing_of node) (length (batch_of node))
 
 -- one attempt to append these updates: the loads of how many entries each node has taken, two stores for each update, the exchange
 abbrev pub attempt_of : ℕ → List Update → ℕ
@@ -21,7 +22,7 @@ attempt_of nodes (update ∷ updates) = nodes + 2 * length (update ∷ updates) 
 
 -- one attempt to append the updates of its call
 abbrev pub attempt : Node → ℕ
-attempt node = attempt_of node.nodes node.batch.items
+attempt node = attempt_of node.nodes (batch_of node)
 
 -- once its node has taken, applied and flushed: it looks at the head again and attempts to append, or the call is over soon
 abbrev pub after_entries : Node → ℕ
@@ -30,10 +31,10 @@ after_entries node = if wants node then 5 + attempt node else 2
 -- how many operations and entries it asks for at most, if it sees no further entries and no node lags
 abbrev pub left_in : Phase → Node → ℕ
 left_in phases.Looks node = 5 + (if wants node then attempt node else 0) + 6 * (node.seen - node.taken)
-left_in phases.Scans node = node.nodes - node.next + 2 * length node.batch.items + 5 + 6 * (node.seen - node.taken)
-left_in phases.Lags node = 2 * length node.batch.items + 5 + 6 * (node.seen - node.taken)
-left_in phases.StoresFirst node = 2 * (length node.batch.items - node.firsts) + 5 + 6 * (node.seen - node.taken)
-left_in phases.StoresSecond node = 2 * (length node.batch.items - node.seconds) + 4 + 6 * (node.seen - node.taken)
+left_in phases.Scans node = node.nodes - node.next + 2 * length (batch_of node) + 5 + 6 * (node.seen - node.taken)
+left_in phases.Lags node = 2 * length (batch_of node) + 5 + 6 * (node.seen - node.taken)
+left_in phases.StoresFirst node = 2 * (length (batch_of node) - node.firsts) + 5 + 6 * (node.seen - node.taken)
+left_in phases.StoresSecond node = 2 * (length (batch_of node) - node.seconds) + 4 + 6 * (node.seen - node.taken)
 left_in phases.Swaps node = 5 + 6 * (node.seen - node.taken)
 left_in phases.LoadsFirst node = 2 * (node.from - node.taken) + (node.seen - node.applied) + 2 + after_entries node
 left_in phases.LoadsSecond node = 2 * (node.from - node.taken) + (node.seen - node.applied) + 1 + after_entries node
@@ -46,7 +47,7 @@ left_in phase node = 0
 
 -- how many operations and entries it asks for at most
 abbrev pub left : Node → ℕ
-left node = left_in node.phase node
+left node = left_in (phase_of node) node
 
 -- what each further entry that it sees may cost: it is taken and applied, and an attempt to append was lost to it
 abbrev pub price : Node → ℕ
@@ -56,7 +57,7 @@ price node = attempt node + 6
 -- loads of one attempt
 pub record Spends (lagged : ℕ) (old new : Node) : Type 0 where
   pub nodes : new.nodes ≡ old.nodes
-  pub batch : new.batch.items ≡ old.batch.items
+  pub batch : batch_of new ≡ batch_of old
   pub seen : old.seen ≤ new.seen
   pub spent : left new + 1 ≤ left old + price old * (new.seen - old.seen) + (old.nodes + 2) * lagged
 

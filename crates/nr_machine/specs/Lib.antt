@@ -4,6 +4,7 @@ pub mod World
 pub mod Laws
 pub mod States
 pub mod Examples
+pub mod Fields
 pub mod Machine
 pub mod Sound
 pub mod Bound

@@ -6,13 +6,14 @@ use Rattle.nr_machine.specs.declared.asked.Asked.TheVariants.{Carry, Apply, Lags
 use Rattle.nr_machine.specs.declared.asked.Refusal.{Refusal}
 use Rattle.nr_machine.specs.declared.asked.Refusal.TheVariants.{Busy, Empty, TooMany, TooLarge}
 use Rattle.nr_machine.specs.declared.node.Node.{Node}
-use Rattle.nr_machine.specs.declared.node.Phase.{Phase}
-use Rattle.nr_machine.specs.declared.node.Phase.TheVariants as phases
+use Rattle.nr_machine.specs.declared.phase.Phase.{Phase}
+use Rattle.nr_machine.specs.declared.phase.Phase.TheVariants as phases
 use Rattle.nr_machine.specs.declared.words.Operation.{Operation}
 use Rattle.nr_machine.specs.declared.words.Operation.TheVariants.{Load, Store, Exchange, Max}
 use Rattle.nr_machine.specs.declared.words.Word.{Word}
 use Rattle.nr_machine.specs.declared.words.Word.TheVariants as words
 use Rattle.nr_machine.specs.declared.words.Update.{Update}
+use Rattle.nr_machine.specs.Fields.{batch_of, got_of, half_of, phase_of, standing_of}
 use Rattle.nr_machine.specs.Words.{packed}
 use Rattle.nr_machine.specs.Actor.{Actor, MayApply, MayDo, MayEnd, link_of, update_at}
 
@@ -24,31 +25,31 @@ actor_of node = record {
   published = node.published;
   asked = node.asked;
   least = node.least;
-  batch = node.batch.items;
-  standing = node.standing;
+  batch = batch_of node;
+  standing = standing_of node;
   seen = node.seen;
   last = node.last;
   firsts = node.firsts;
   seconds = node.seconds;
   from = node.from;
   ring = node.ring;
-  half = node.half;
-  got = reverse node.got.items;
+  half = half_of node;
+  got = reverse (got_of node);
 }
 
 -- the stores of the words of its next update, ahead of the tail, and the exchange of the head
 abbrev pub first_store_of : Node → Operation
-first_store_of node = Store (words.First node.number ((node.seen + node.firsts) % 16)) (update_at node.batch.items node.firsts).first
+first_store_of node = Store (words.First node.number ((node.seen + node.firsts) % 16)) (update_at (batch_of node) node.firsts).first
 
 -- the store of the second word of its next update
 abbrev pub second_store_of : Node → Operation
 second_store_of node = Store (words.Second node.number ((node.seen + node.seconds) % 16))
-    (packed (update_at node.batch.items node.seconds).second (link_of node.number (actor_of node) node.seconds))
+    (packed (update_at (batch_of node) node.seconds).second (link_of node.number (actor_of node) node.seconds))
 
 -- the exchange of the head that appends its updates
 abbrev pub exchange_of : Node → Operation
 exchange_of node =
-    Exchange words.Head (packed node.seen node.last) (packed (node.seen + length node.batch.items) node.number)
+    Exchange words.Head (packed node.seen node.last) (packed (node.seen + length (batch_of node)) node.number)
 
 -- what a machine asks for in each phase
 abbrev pub asked_in : Phase → Node → Asked
@@ -70,7 +71,7 @@ asked_in phases.Broken node = Broken
 
 -- what a machine asks for
 abbrev pub asked_by : Node → Asked
-asked_by node = asked_in node.phase node
+asked_by node = asked_in (phase_of node) node
 
 -- a word that nodes of this number have: its node is one of them, and its index is one of a ring
 abbrev pub IsWordOf : ℕ → Word → Type 0
@@ -117,7 +118,7 @@ is_at_rest phase = false
 -- the first reason why a call that appends these updates is refused
 abbrev pub refusal_of : Node → List Update → Option Refusal
 refusal_of node updates =
-    if not (is_at_rest node.phase) then Some Busy
+    if not (is_at_rest (phase_of node)) then Some Busy
     else if nat_eq (length updates) 0 then Some Empty
     else if nat_lt 16 (length updates) then Some TooMany
     else if list_all (λ (update : Update). nat_lt update.second (2 ^ 57)) updates then None

@@ -5,10 +5,12 @@ mod asked;
 mod calls;
 pub mod laws;
 mod node;
+mod phase;
 mod steps;
 mod words;
 
 pub use asked::{Asked, END, Refusal, Reply};
 pub use calls::everywhere;
-pub use node::{Node, Phase};
+pub use node::Node;
+pub use phase::Phase;
 pub use words::{NODES, Operation, RING, Update, Word};

@@ -1,4 +1,4 @@
-//! A node's machine.
+//! A node's machine, as C keeps it.
 ghost use Rattle.std.specs.Prelude.{◌≡◌, ◌<◌, ◌≤◌, ◌^◌, ◌%◌, ◌⊎◌, MatchOption};
 ghost use Rattle.nr_machine.specs.Actor.{new_actor};
 ghost use Rattle.nr_machine.specs.Machine.{actor_of, asked_by, exchange_of, first_store_of, second_store_of, MayAsk};
@@ -6,75 +6,51 @@ ghost use Rattle.nr_machine.specs.Sound.{IsSound, IsStoring, IsWanting};
 ghost use Rattle.nr_machine.specs.Words.{packed};
 
 use crate::asked::{Asked, Reply};
-use crate::words::{NODES, Operation, RING, Update, Word};
-use arrayvec::ArrayVec;
+use crate::phase::Phase;
+use crate::words::{Operation, RING, Update, Word};
 
-/// What a machine waits for.
-#[derive(Clone, Copy, Debug, PartialEq, Eq)]
-pub enum Phase {
-    /// The next call.
-    Rest,
-    /// The load of the head.
-    Looks,
-    /// The load of how many entries the next node has taken.
-    Scans,
-    /// To have a node take entries.
-    Lags,
-    /// The store of an update's first word, ahead of the tail.
-    StoresFirst,
-    /// The store of its second word.
-    StoresSecond,
-    /// The exchange of the head.
-    Swaps,
-    /// The load of the first word of the entry below those that it has.
-    LoadsFirst,
-    /// The load of its second word.
-    LoadsSecond,
-    /// The store of how many entries its node has taken.
-    Raises,
-    /// To have the next entry applied.
-    Applies,
-    /// The store of how many entries its node has applied and flushed.
-    Flushes,
-    /// The load of how many entries are completed.
-    Checks,
-    /// The store of a greater number there.
-    Publishes,
-    /// Nothing any more.
-    Broken,
-}
-
-/// The machine of one node: plain numbers. Whoever calls it has the node for himself until the call is over.
-#[derive(Drop)]
+/// The machine of one node: plain numbers, in the order of C's struct. Whoever calls it has the node for himself until the call is over.
+#[repr(C)]
+#[derive(Clone, Copy, Debug)]
 pub struct Node {
+    /// How many entries its node has applied.
+    pub applied: u64,
+    /// How many of the updates of its call are replied to, and the replies, in the order of the updates.
+    pub reply_count: usize,
+    pub replies: [Reply; RING],
     /// How many nodes there are, and which one this is.
     pub nodes: u64,
     pub number: u64,
-    pub phase: Phase,
-    /// How many entries its node has taken, and applied.
+    /// What it waits for: the number of a `Phase`.
+    pub phase: u64,
+    /// How many entries its node has taken.
     pub taken: u64,
-    pub applied: u64,
     /// So many entries are known to be completed.
     pub published: u64,
     /// The nodes below this number are known to have taken so many entries at least; and whose number is loaded next.
     pub asked: u64,
     pub least: u64,
     pub next: u64,
-    /// The updates of the call, and from which place on they are in the log.
-    pub batch: ArrayVec<Update, RING>,
-    pub standing: Option<u64>,
     /// The tail that was seen, and who had appended last; how many first and second words of the updates are stored ahead of it.
     pub seen: u64,
     pub last: u64,
     pub firsts: usize,
     pub seconds: usize,
-    /// From this place up to that tail it has the entries, the last of them first; who appended the entry before them, and its first word.
+    /// From this place up to that tail it has the entries; and who appended the entry before them.
     pub from: u64,
     pub ring: u64,
-    pub half: Option<u64>,
-    pub got: ArrayVec<Update, RING>,
-    /// The replies to the updates of the call so far, in their order.
-    pub replies: ArrayVec<Reply, RING>,
+    /// 1 where its updates are in the log, and from which place on.
+    pub stands: u64,
+    pub first: u64,
+    /// 1 where it has the first word of the entry before those that it has, and that word.
+    pub has_half: u64,
+    pub half: u64,
+    /// The updates of its call.
+    pub batch_count: usize,
+    pub batch: [Update; RING],
+    /// The entries that it has, the last of them first.
+    pub got_count: usize,
+    pub got: [Update; RING],
 }
 
 impl Node {
@@ -85,31 +61,45 @@ impl Node {
             (λ node. IsSound node × (asked_by node ≡ Asked.Done) × (node.nodes ≡ nodes)
             × (node.number ≡ number) × (actor_of node ≡ new_actor nodes)) }
     {
-        if nodes > NODES || number >= nodes {
-            return None;
-        }
-        Some(Node {
-            nodes,
-            number,
-            phase: Phase::Rest,
-            taken: 0,
+        let zero = Update {
+            first: 0,
+            second: 0,
+        };
+        let mut node = Node {
             applied: 0,
+            reply_count: 0,
+            replies: [Reply {
+                first: 0,
+                second: 0,
+            }; RING],
+            nodes: 0,
+            number: 0,
+            phase: 0,
+            taken: 0,
             published: 0,
-            asked: nodes,
+            asked: 0,
             least: 0,
             next: 0,
-            batch: ArrayVec::new(),
-            standing: None,
             seen: 0,
             last: 0,
             firsts: 0,
             seconds: 0,
             from: 0,
             ring: 0,
-            half: None,
-            got: ArrayVec::new(),
-            replies: ArrayVec::new(),
-        })
+            stands: 0,
+            first: 0,
+            has_half: 0,
+            half: 0,
+            batch_count: 0,
+            batch: [zero; RING],
+            got_count: 0,
+            got: [zero; RING],
+        };
+        if node.renew(nodes, number) {
+            Some(node)
+        } else {
+            None
+        }
     }
 
     /// How many entries its node has applied. While no call is open they are completed too.
@@ -120,16 +110,17 @@ impl Node {
     }
 
     /// What it asks for next.
+    #[inline(always)]
     pub fn asks(&self) -> Asked
         requires { IsSound self.now }
         ensures asks { result ≡ asked_by self.now }
         ensures may { MayAsk self.now.nodes self.now.number (actor_of self.now) result }
     {
-        let word = match self.phase {
+        let word = match Phase::of(self.phase) {
             Phase::Rest => return Asked::Done,
             Phase::Broken => return Asked::Broken,
             Phase::Lags => return Asked::Lags(self.next),
-            Phase::Applies => return Asked::Apply(self.got.as_slice()[self.got.len() - 1]),
+            Phase::Applies => return Asked::Apply(self.got[self.got_count - 1]),
             Phase::StoresFirst => return Asked::Carry(self.first_store()),
             Phase::StoresSecond => return Asked::Carry(self.second_store()),
             Phase::Swaps => return Asked::Carry(self.exchange()),
@@ -158,7 +149,7 @@ impl Node {
         ensures { result ≡ first_store_of self.now }
     {
         let word = Word::First(self.number, index_of(self.seen + self.firsts as u64));
-        Operation::Store(word, self.batch.as_slice()[self.firsts].first)
+        Operation::Store(word, self.batch[self.firsts].first)
     }
 
     /// The store of its second word, with the link to the entry before it.
@@ -173,10 +164,7 @@ impl Node {
         } else {
             self.number
         };
-        Operation::Store(
-            word,
-            packed(self.batch.as_slice()[self.seconds].second, link),
-        )
+        Operation::Store(word, packed(self.batch[self.seconds].second, link))
     }
 
     /// The exchange of the head for the one after the updates.
@@ -185,7 +173,7 @@ impl Node {
         requires wants { IsWanting self.now }
         ensures { result ≡ exchange_of self.now }
     {
-        let new = packed(self.seen + self.batch.len() as u64, self.number);
+        let new = packed(self.seen + self.batch_count as u64, self.number);
         Operation::Exchange(Word::Head, packed(self.seen, self.last), new)
     }
 }
@@ -200,7 +188,7 @@ pub(crate) fn packed(high: u64, low: u64) -> u64
 }
 
 /// The index of a place's entry in a ring.
-pub(crate) fn index_of(place: u64) -> u64
+fn index_of(place: u64) -> u64
     ensures { result ≡ place % 16 }
 {
     place % RING as u64

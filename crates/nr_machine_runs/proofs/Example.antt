@@ -1,5 +1,5 @@
 -- The notes of the example may come where they are.
-use Rattle.std.proofs.Common.{◌≡◌, ◌+◌, List, [], ◌∷◌, ◌++◌, refl, ap, sym, ◌∙◌, inl, arith, Some}
+use Rattle.std.proofs.Common.{◌≡◌, Bool, true, false, List, [], ◌∷◌, ◌++◌, refl, ap, sym, ◌∙◌, inl, arith, Some}
 use Rattle.vs_types.specs.Config.{Layout}
 use Rattle.vs_types.specs.Space.{Space, no_pages}
 use Rattle.vs_types.specs.Step.{look, step}
@@ -11,8 +11,13 @@ use Rattle.vs_types.specs.declared.op.Action.TheVariants.{Unmap}
 use Rattle.vs_types.specs.declared.request.Query.TheVariants.{Resolve}
 use Rattle.vs_types.proofs.Spaces.{look_of_nothing, no_pages_at}
 use Rattle.nr_machine.specs.declared.words.Update.{Update}
-use Rattle.nr_machine_runs.specs.Examples.{both_store, example, one_reads, one_replies, other_appends, other_is_late, other_replies, three_call, two_nodes, unmaps}
+use Rattle.nr_machine.specs.World.{Act, Plays}
+use Rattle.nr_machine.specs.World.Act.{Begins, Does, Applies, Ends, ReadBegins, ReadEnds}
+use Rattle.nr_machine.specs.Examples.{one_catches_up, one_ends}
+use Rattle.nr_machine.proofs.Tests.{plays}
+use Rattle.nr_machine_runs.specs.Examples.{both_append, both_reply, example, one_replies, other_replies, taken, three_call, two_nodes, unmaps}
 use Rattle.nr_machine_runs.specs.Recorded.{MayAll, Note, Run, new_run, noted, noted_all}
+use Rattle.nr_machine_runs.specs.Recorded.Note.{Takes}
 
 -- where there is no page, an unmap finds none and changes nothing
 abbrev unmapped : Space → Space
@@ -44,28 +49,46 @@ may_both layout means run (note ∷ notes) more may rest = (may.0, may_both layo
 abbrev after : Run → List Note → Run
 after run notes = noted_all two_nodes unmaps run notes
 
-abbrev before_three_call : Run
-before_three_call = new_run two_nodes unmaps
+-- steps by which no call begins
+abbrev goes_on : List Act → Bool
+goes_on [] = true
+goes_on (Begins n batch ∷ acts) = false
+goes_on (ReadBegins n ∷ acts) = false
+goes_on (act ∷ acts) = goes_on acts
 
-abbrev before_both_store : Run
-before_both_store = after before_three_call three_call
+-- what may be played where no call begins may be noted
+taken_may : (run : Run) (acts : List Act) → goes_on acts ≡ true → Plays 2 run.nodes.world acts → MayAll two_nodes unmaps run (taken acts)
+taken_may run [] goes may = tt
+taken_may run (Begins n batch ∷ acts) goes may = absurd (cc)
+taken_may run (ReadBegins n ∷ acts) goes may = absurd (cc)
+taken_may run (Does n operation ∷ acts) goes may =
+    (may.0, taken_may (noted two_nodes unmaps run (Takes (Does n operation))) acts goes may.1)
+taken_may run (Applies n ∷ acts) goes may = (may.0, taken_may (noted two_nodes unmaps run (Takes (Applies n))) acts goes may.1)
+taken_may run (Ends n ∷ acts) goes may = (may.0, taken_may (noted two_nodes unmaps run (Takes (Ends n))) acts goes may.1)
+taken_may run (ReadEnds c ∷ acts) goes may = (may.0, taken_may (noted two_nodes unmaps run (Takes (ReadEnds c))) acts goes may.1)
 
-abbrev before_other_is_late : Run
-before_other_is_late = after before_both_store both_store
+abbrev at_three_call : Run
+at_three_call = new_run two_nodes unmaps
 
-abbrev before_other_appends : Run
-before_other_appends = after before_other_is_late other_is_late
+abbrev at_both_append : Run
+at_both_append = after at_three_call three_call
 
-abbrev before_other_replies : Run
-before_other_replies = after before_other_appends other_appends
+abbrev at_other_replies : Run
+at_other_replies = after at_both_append (taken both_append)
 
-abbrev before_one_replies : Run
-before_one_replies = after before_other_replies other_replies
+abbrev at_one_ends : Run
+at_one_ends = after at_other_replies other_replies
 
-abbrev before_one_reads : Run
-before_one_reads = after before_one_replies one_replies
+abbrev at_both_reply : Run
+at_both_reply = after at_one_ends (taken one_ends)
 
-three_call_may : MayAll two_nodes unmaps before_three_call three_call
+abbrev at_one_catches_up : Run
+at_one_catches_up = after at_both_reply both_reply
+
+abbrev at_one_replies : Run
+at_one_replies = after at_one_catches_up (taken one_catches_up)
+
+three_call_may : MayAll two_nodes unmaps at_three_call three_call
 three_call_may = (
   refl,
   (
@@ -74,249 +97,41 @@ three_call_may = (
       refl,
       (
         ((omega arith, (refl, omega arith, omega arith)), ((0, refl), refl, ((1, refl), refl, tt))),
-        (
-          ((omega arith, (refl, omega arith, omega arith)), ((2, refl), refl, tt)),
-          tt,
-        ),
+        (((omega arith, (refl, omega arith, omega arith)), ((2, refl), refl, tt)), tt),
       ),
     ),
   ),
 )
 
-both_store_may : MayAll two_nodes unmaps before_both_store both_store
-both_store_may = (
-  (omega arith, refl),
-  (
-    (omega arith, ((refl, refl, (refl, omega arith), omega arith, refl), refl)),
-    (
-      (omega arith, ((refl, refl, (refl, omega arith), omega arith, refl), refl)),
-      (
-        (omega arith, refl),
-        (
-          (omega arith, ((refl, refl, (refl, omega arith), omega arith, refl), refl)),
-          (
-            (omega arith, ((refl, refl, (refl, omega arith), omega arith, refl), refl)),
-            (
-              (omega arith, ((refl, refl, (refl, omega arith), omega arith, refl), refl)),
-              (
-                (omega arith, ((refl, refl, (refl, omega arith), omega arith, refl), refl)),
-                (
-                  (
-                    omega arith,
-                    record {
-                      wants = refl;
-                      some = omega arith;
-                      room = (refl, omega arith);
-                      firsts = refl;
-                      seconds = refl;
-                      applied = refl;
-                      expects = refl;
-                      becomes = refl;
-                    },
-                  ),
-                  tt,
-                ),
-              ),
-            ),
-          ),
-        ),
-      ),
-    ),
-  ),
-)
-
-other_is_late_may : MayAll two_nodes unmaps before_other_is_late other_is_late
-other_is_late_may = (
-  (
-    omega arith,
-    record {
-      wants = refl;
-      some = omega arith;
-      room = (refl, omega arith);
-      firsts = refl;
-      seconds = refl;
-      applied = refl;
-      expects = refl;
-      becomes = refl;
-    },
-  ),
-  (
-    (omega arith, (omega arith, refl, refl)),
-    (
-      (omega arith, ((omega arith, refl, refl), refl)),
-      (
-        (omega arith, (omega arith, refl, refl)),
-        (
-          (omega arith, ((omega arith, refl, refl), refl)),
-          (
-            (omega arith, (refl, refl, refl, refl)),
-            (
-              (omega arith, record { taken = refl; next = refl; some = omega arith }),
-              (
-                (omega arith, record { taken = refl; next = refl; some = omega arith }),
-                (
-                  (omega arith, (refl, refl)),
-                  tt,
-                ),
-              ),
-            ),
-          ),
-        ),
-      ),
-    ),
-  ),
-)
-
-other_appends_may : MayAll two_nodes unmaps before_other_appends other_appends
-other_appends_may = (
-  (omega arith, refl),
-  (
-    (omega arith, (omega arith, omega arith)),
-    (
-      (omega arith, (omega arith, omega arith)),
-      (
-        (omega arith, ((refl, refl, (refl, omega arith), omega arith, refl), refl)),
-        (
-          (omega arith, ((refl, refl, (refl, omega arith), omega arith, refl), refl)),
-          (
-            (
-              omega arith,
-              record {
-                wants = refl;
-                some = omega arith;
-                room = (refl, omega arith);
-                firsts = refl;
-                seconds = refl;
-                applied = refl;
-                expects = refl;
-                becomes = refl;
-              },
-            ),
-            (
-              (omega arith, (omega arith, refl, refl)),
-              (
-                (omega arith, ((omega arith, refl, refl), refl)),
-                (
-                  (omega arith, (refl, refl, refl, refl)),
-                  tt,
-                ),
-              ),
-            ),
-          ),
-        ),
-      ),
-    ),
-  ),
-)
-
-other_replies_may : MayAll two_nodes unmaps before_other_replies other_replies
+other_replies_may : MayAll two_nodes unmaps at_other_replies other_replies
 other_replies_may = (
-  (omega arith, record { taken = refl; next = refl; some = omega arith }),
+  (refl, inl (0, omega arith, refl, refl, ap (λ (a : Answer). Some a) (answered (unmapped (unmapped no_pages)) twice))),
+  tt,
+)
+
+both_reply_may : MayAll two_nodes unmaps at_both_reply both_reply
+both_reply_may = (
+  (refl, inl (0, omega arith, refl, refl, ap (λ (a : Answer). Some a) (answered no_pages refl))),
   (
-    (omega arith, (refl, refl)),
-    (
-      (omega arith, tt),
-      (
-        (omega arith, omega arith),
-        (
-          (omega arith, (omega arith, omega arith)),
-          (
-            (refl, inl (0, omega arith, refl, refl, ap (λ (a : Answer). Some a) (answered (unmapped (unmapped no_pages)) twice))),
-            tt,
-          ),
-        ),
-      ),
-    ),
+    (refl, inl (1, omega arith, refl, refl, ap (λ (a : Answer). Some a) (answered (unmapped no_pages) once))),
+    (refl, ((omega arith, (0, Resolve 0, refl, refl)), tt)),
   ),
 )
 
-one_replies_may : MayAll two_nodes unmaps before_one_replies one_replies
-one_replies_may = (
-  (omega arith, (omega arith, refl, refl)),
-  (
-    (omega arith, ((omega arith, refl, refl), refl)),
-    (
-      (omega arith, (omega arith, refl, refl)),
-      (
-        (omega arith, ((omega arith, refl, refl), refl)),
-        (
-          (omega arith, (refl, refl, refl, refl)),
-          (
-            (omega arith, record { taken = refl; next = refl; some = omega arith }),
-            (
-              (omega arith, record { taken = refl; next = refl; some = omega arith }),
-              (
-                (omega arith, (refl, refl)),
-                (
-                  (omega arith, tt),
-                  (
-                    (omega arith, (omega arith, omega arith)),
-                    (
-                      (refl, inl (0, omega arith, refl, refl, ap (λ (a : Answer). Some a) (answered no_pages refl))),
-                      (
-                        (refl, inl (1, omega arith, refl, refl, ap (λ (a : Answer). Some a) (answered (unmapped no_pages) once))),
-                        tt,
-                      ),
-                    ),
-                  ),
-                ),
-              ),
-            ),
-          ),
-        ),
-      ),
-    ),
-  ),
-)
-
-one_reads_may : MayAll two_nodes unmaps before_one_reads one_reads
-one_reads_may = (
-  refl,
-  (
-    (omega arith, (0, Resolve 0, refl, refl)),
-    (
-      (omega arith, refl),
-      (
-        (omega arith, (omega arith, refl, refl)),
-        (
-          (omega arith, ((omega arith, refl, refl), refl)),
-          (
-            (omega arith, (refl, refl, refl, refl)),
-            (
-              (omega arith, record { taken = refl; next = refl; some = omega arith }),
-              (
-                (omega arith, (refl, refl)),
-                (
-                  (omega arith, tt),
-                  (
-                    (refl, omega arith, omega arith),
-                    (
-                      (refl, inl (refl, refl, 1, 0, Resolve 0, refl, looked)),
-                      tt,
-                    ),
-                  ),
-                ),
-              ),
-            ),
-          ),
-        ),
-      ),
-    ),
-  ),
-)
+one_replies_may : MayAll two_nodes unmaps at_one_replies one_replies
+one_replies_may = ((refl, inl (refl, refl, 1, 0, Resolve 0, refl, looked)), tt)
 
 pub example_may : MayAll two_nodes unmaps (new_run two_nodes unmaps) example
 example_may =
-    may_both two_nodes unmaps before_three_call three_call (both_store ++ (other_is_late ++ (other_appends ++ (other_replies ++ (one_replies ++ one_reads)))))
-    three_call_may
-    (may_both two_nodes unmaps before_both_store both_store (other_is_late ++ (other_appends ++ (other_replies ++ (one_replies ++ one_reads))))
-    both_store_may
-    (may_both two_nodes unmaps before_other_is_late other_is_late (other_appends ++ (other_replies ++ (one_replies ++ one_reads)))
-    other_is_late_may
-    (may_both two_nodes unmaps before_other_appends other_appends (other_replies ++ (one_replies ++ one_reads))
-    other_appends_may
-    (may_both two_nodes unmaps before_other_replies other_replies (one_replies ++ one_reads)
-    other_replies_may
-    (may_both two_nodes unmaps before_one_replies one_replies (one_reads)
-    one_replies_may
-    one_reads_may)))))
+    let last = taken one_catches_up ++ one_replies in
+    let ending = taken one_ends ++ (both_reply ++ last) in
+    may_both two_nodes unmaps at_three_call three_call (taken both_append ++ (other_replies ++ ending)) three_call_may
+    (may_both two_nodes unmaps at_both_append (taken both_append) (other_replies ++ ending)
+    (taken_may at_both_append both_append refl ((plays 2 at_both_append.nodes.world both_append).sound refl))
+    (may_both two_nodes unmaps at_other_replies other_replies ending other_replies_may
+    (may_both two_nodes unmaps at_one_ends (taken one_ends) (both_reply ++ last)
+    (taken_may at_one_ends one_ends refl ((plays 2 at_one_ends.nodes.world one_ends).sound refl))
+    (may_both two_nodes unmaps at_both_reply both_reply last both_reply_may
+    (may_both two_nodes unmaps at_one_catches_up (taken one_catches_up) one_replies
+    (taken_may at_one_catches_up one_catches_up refl ((plays 2 at_one_catches_up.nodes.world one_catches_up).sound refl))
+    one_replies_may)))))

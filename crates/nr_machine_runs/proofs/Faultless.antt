@@ -1,5 +1,5 @@
 -- A run's state is one that the core's recordings are proved of: so no recording of it has a fault.
-use Rattle.std.proofs.Common.{◌≡◌, ℕ, zero, suc, ◌<◌, ◌≤◌, inl, inr, List, [], ◌∷◌, length, map, replicate, nat_eq, Some, None, refl, ap, sym, subst, ◌∙◌, arith}
+use Rattle.std.proofs.Common.{◌≡◌, ℕ, zero, suc, ◌<◌, ◌≤◌, inl, inr, List, [], ◌∷◌, map, replicate, nat_eq, Some, None, refl, ap, sym, subst, ◌∙◌, arith}
 use Rattle.std.specs.List.{IsDistinct}
 use Rattle.std.specs.Prelude.{slice_get}
 use Rattle.std.proofs.lemmas.List.{map-append}
@@ -8,11 +8,9 @@ use Rattle.vs_types.specs.Config.{Layout}
 use Rattle.vs_types.specs.Space.{no_pages}
 use Rattle.vs_types.specs.declared.log_entry.LogEntry.{LogEntry}
 use Rattle.vs_walk.specs.Dump.{Image}
-use Rattle.nr_trace.specs.Faults.{HasFault}
 use Rattle.nr_trace.specs.Laws.{IsFaultless}
 use Rattle.nr_trace.specs.Orders.{FitsOrder, IsLegalOrder, recorded_order}
 use Rattle.nr_trace.specs.Recording.{IsThere, Recording}
-use Rattle.nr_trace.specs.declared.fault.Fault.{Fault}
 use Rattle.nr_trace.specs.declared.fault.Fault.TheVariants.{ThreadOpen, NoSuchCall, AnsweredTwice, NotAnUpdate, PlacedTwice, NotPlaced, PastLog, Early}
 use Rattle.nr_trace.specs.declared.fault.Fault.TheVariants.{WrongAnswer, PrefixPastLog, PrefixShort, MissingFrame, SharedFrame, ReservedBit, StrayFrame}
 use Rattle.nr_trace.specs.declared.fault.Fault.TheVariants.{Differs}
@@ -37,7 +35,8 @@ use Rattle.nr_machine_runs.specs.Recorded.{IsRecordingOfRun, MayAll, MayNote, No
 use Rattle.nr_machine_runs.specs.Recorded.Note.{Calls, Takes, Reads, Replies}
 use Rattle.nr_machine_runs.proofs.Histories.{length-values_to}
 use Rattle.nr_machine_runs.proofs.Noted.{entries_placed}
-use Rattle.nr_machine_runs.proofs.Steps.{IsNoted, IsPlain, called, reads, replied, shared_of, takes}
+use Rattle.nr_machine_runs.proofs.Ended.{IsNoted, IsPlain, shared_of}
+use Rattle.nr_machine_runs.proofs.Steps.{called, reads, replied, takes}
 use Rattle.nr_machine_runs.proofs.Values.{space_is, value_at}
 
 -- calls at places that are all different

@@ -1,5 +1,5 @@
 -- What no step makes less: what is completed, what is applied, the log.
-use Rattle.std.proofs.Common.{◌≡◌, ℕ, ◌<◌, ◌≤◌, ap, arith}
+use Rattle.std.proofs.Common.{◌≡◌, ℕ, ◌≤◌, ap, arith}
 use Rattle.nr_machine.specs.Words.{told_by}
 use Rattle.nr_machine.specs.Actor.{learned}
 use Rattle.nr_machine.specs.World.{Act, World, MayAct, acted}

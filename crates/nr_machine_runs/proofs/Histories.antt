@@ -1,5 +1,5 @@
 -- The events of each step follow those before it.
-use Rattle.std.proofs.Common.{◌≡◌, ℕ, zero, suc, ◌+◌, ◌-◌, ◌<◌, ◌≤◌, ◌==◌, nat_lt, Bool, true, false, cond, List, [], ◌∷◌, ◌++◌, map, length, get_or, set, replicate, refl, ap, sym, subst, ◌∙◌, arith}
+use Rattle.std.proofs.Common.{◌≡◌, ℕ, zero, suc, ◌+◌, ◌-◌, ◌<◌, ◌≤◌, ◌==◌, nat_lt, Bool, true, false, cond, List, [], ◌∷◌, ◌++◌, map, length, get_or, set, refl, ap, sym, subst, ◌∙◌, arith}
 use Rattle.std.specs.Prelude.{All, ⊤}
 use Rattle.std.proofs.lemmas.Bool.Decides.{nat_tests}
 use Rattle.std.proofs.lemmas.List.{append_assoc, append-nil, get_or-replicate, get_or-set_other, get_or-set_same, length-map, length-replicate, length-set, length-append}
@@ -7,23 +7,22 @@ use Rattle.std.proofs.lemmas.List.Elements.{All-nil}
 use Rattle.vs_types.specs.LogEntry.{IsLogEntry}
 use Rattle.vs_types.specs.declared.depth.Depth.{Depth}
 use Rattle.vs_types.specs.declared.log_entry.LogEntry.{LogEntry}
-use Rattle.nr_ring.specs.LogHistory.{Log, MayAdvance, MayAppend, MayGoOn, local_of, log_after_event, log_after_events, new_log}
+use Rattle.nr_ring.specs.LogHistory.{Log, MayGoOn, log_after_event, log_after_events, new_log}
 use Rattle.nr_ring.specs.declared.words.TheConstants.{MOST_PLACES}
 use Rattle.nr_ring.specs.declared.log_event.LogEvent.{LogEvent}
 use Rattle.nr_ring.specs.declared.log_event.LogEvent.TheVariants.{Append, Advance}
-use Rattle.nr_machine.specs.declared.words.Operation.{Operation}
 use Rattle.nr_machine.specs.declared.words.Operation.TheVariants.{Load, Store, Exchange, Max}
 use Rattle.nr_machine.specs.declared.words.Word.TheVariants.{Head, Completed, Local, Done, First, Second}
 use Rattle.nr_machine.specs.declared.words.Update.{Update}
-use Rattle.nr_machine.specs.Actor.{MayAppend as MayAppendAs, MayDo, learned, update_at}
-use Rattle.nr_machine.specs.Words.{carried_out, stored, told_by, with_at}
-use Rattle.nr_machine.specs.World.{Act, Log as Machine, World, MayAct, Plays, acted, appended, log_after, opening, played}
+use Rattle.nr_machine.specs.Actor.{MayAppend as MayAppendAs, learned, update_at}
+use Rattle.nr_machine.specs.Words.{stored, told_by, with_at}
+use Rattle.nr_machine.specs.World.{Act, Log as Machine, World, MayAct, Plays, acted, appended, opening, played}
 use Rattle.nr_machine.specs.World.Act.{Begins, Does, Applies, Ends, ReadBegins, ReadEnds}
 use Rattle.nr_machine.proofs.Cases.{at_cases, below_cases}
 use Rattle.nr_machine.proofs.Ending.{acts_hold, opening_held}
 use Rattle.nr_machine.proofs.Held.{IsBeginning, IsHeld, operation_holds, same_log}
 use Rattle.nr_machine.proofs.Stated.{goes_on}
-use Rattle.nr_machine_runs.specs.History.{AreMeant, IsLogOf, IsScheduleFor, entries_to, events_of, events_of_operation, history, history_from, values_to}
+use Rattle.nr_machine_runs.specs.History.{AreMeant, IsLogOf, IsScheduleFor, entries_to, events_of, history, history_from, values_to}
 
 -- ---- entries of a log
 

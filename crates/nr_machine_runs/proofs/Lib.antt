@@ -4,6 +4,7 @@ mod Growing
 mod Opened
 mod Given
 mod Noted
+mod Ended
 mod Steps
 mod Faultless
 pub mod Example

@@ -1,12 +1,12 @@
 -- What holds of the log and of the batches of a run: each call has at most one place, or is in at most one batch.
-use Rattle.std.proofs.Common.{◌≡◌, ℕ, zero, suc, ◌+◌, ◌-◌, ◌<◌, ◌≤◌, nat_lt, Bool, true, false, ◌⊎◌, inl, inr, Option, Some, None, List, [], ◌∷◌, length, refl, ap, sym, subst, ◌∙◌, arith}
+use Rattle.std.proofs.Common.{◌≡◌, ℕ, ◌+◌, ◌-◌, ◌<◌, ◌≤◌, nat_lt, Bool, true, false, ◌⊎◌, inl, inr, Some, None, List, [], length, refl, ap, sym, subst, ◌∙◌, arith}
 use Rattle.std.specs.Prelude.{slice_get}
 use Rattle.std.proofs.lemmas.Bool.Decides.{nat_tests}
 use Rattle.vs_types.specs.declared.log_entry.LogEntry.{LogEntry}
 use Rattle.vs_types.specs.declared.request.Query.TheVariants.{Update as Updates}
 use Rattle.nr_trace.specs.Calls.{Invocation, made_by}
 use Rattle.nr_trace.specs.declared.event.Event.{Event}
-use Rattle.nr_core.specs.inside.Reached.{At, AreEntries, Behind, call_at}
+use Rattle.nr_core.specs.inside.Reached.{AreEntries, Behind, call_at}
 use Rattle.nr_core.proofs.reached.Growth.{HaveCalls, Longer, behind_stays, read_stays, read_within, then_from}
 use Rattle.nr_machine.specs.declared.words.Update.{Update}
 use Rattle.nr_machine.specs.Actor.{Actor, update_at}

@@ -1,5 +1,5 @@
 -- The history of the log of `nr_ring` that a schedule makes, where each update means an entry of that log.
-use Rattle.std.specs.Prelude.{◌≡◌, ℕ, zero, suc, ◌+◌, ◌<◌, ◌≤◌, ◌==◌, nat_lt, if◌then◌else◌, List, [], ◌∷◌, ◌++◌, map, length, All, ⊤}
+use Rattle.std.specs.Prelude.{◌≡◌, ℕ, zero, suc, ◌<◌, ◌≤◌, ◌==◌, nat_lt, if◌then◌else◌, List, [], ◌∷◌, ◌++◌, map, length, All, ⊤}
 use Rattle.vs_types.specs.LogEntry.{IsLogEntry}
 use Rattle.vs_types.specs.declared.depth.Depth.{Depth}
 use Rattle.vs_types.specs.declared.log_entry.LogEntry.{LogEntry}
@@ -8,12 +8,12 @@ use Rattle.nr_ring.specs.declared.words.TheConstants.{MOST_PLACES}
 use Rattle.nr_ring.specs.declared.log_event.LogEvent.{LogEvent}
 use Rattle.nr_ring.specs.declared.log_event.LogEvent.TheVariants.{Append, Advance}
 use Rattle.nr_machine.specs.declared.words.Operation.{Operation}
-use Rattle.nr_machine.specs.declared.words.Operation.TheVariants.{Load, Store, Exchange, Max}
+use Rattle.nr_machine.specs.declared.words.Operation.TheVariants.{Store, Exchange}
 use Rattle.nr_machine.specs.declared.words.Word.TheVariants.{Local}
 use Rattle.nr_machine.specs.declared.words.Update.{Update}
 use Rattle.nr_machine.specs.Words.{loaded}
 use Rattle.nr_machine.specs.World.{Act, Plays, World, acted, opening, played}
-use Rattle.nr_machine.specs.World.Act.{Begins, Does, Applies, Ends, ReadBegins, ReadEnds}
+use Rattle.nr_machine.specs.World.Act.{Begins, Does}
 
 -- an exchange of the head that succeeds appends the batch of its call, and a store of how many entries a node has taken advances it
 abbrev pub events_of_operation : (Update → LogEntry) → World → ℕ → Operation → List LogEvent

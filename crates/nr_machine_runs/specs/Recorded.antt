@@ -1,6 +1,6 @@
 -- Runs of the machine whose calls and replies are recorded, where what a node keeps is an address space. A call is recorded before its
 -- update is given to a machine, or its read begins; and a reply once the machine's call is over.
-use Rattle.std.specs.Prelude.{◌≡◌, ℕ, ◌+◌, ◌<◌, ◌≤◌, ◌⊎◌, Bool, true, false, List, [], ◌∷◌, ◌++◌, length, replicate, slice_get, slice_set, Option, Some, None, ⊤}
+use Rattle.std.specs.Prelude.{◌≡◌, ℕ, ◌+◌, ◌<◌, ◌≤◌, ◌⊎◌, Bool, true, false, List, [], ◌∷◌, ◌++◌, length, replicate, slice_get, slice_set, Some, None, ⊤}
 use Rattle.vs_types.specs.Config.{Layout}
 use Rattle.vs_types.specs.Space.{Space, no_pages}
 use Rattle.vs_types.specs.Step.{step}
@@ -22,7 +22,7 @@ use Rattle.nr_machine.specs.States.{Kind, Nodes, Reply, at_first, followed}
 use Rattle.nr_machine.specs.States.Reply.{Updated, Saw}
 use Rattle.nr_machine.specs.Words.{with_at}
 use Rattle.nr_machine.specs.World.{Act, MayAct}
-use Rattle.nr_machine.specs.World.Act.{Begins, Does, Applies, Ends, ReadBegins, ReadEnds}
+use Rattle.nr_machine.specs.World.Act.{Begins, ReadBegins}
 use Rattle.nr_machine_runs.specs.History.{entries_to, values_to}
 
 -- the entries change the one sequential address space

@@ -1,4 +1,2 @@
-pub mod Kept
-pub mod Said
+pub mod Numbers
 pub mod Next
-pub mod Steps

@@ -1,15 +1,12 @@
-//! The machine of a node for C: each call is given C's own struct, in which a `Node` of `nr_machine` is kept as plain numbers.
+//! The machine of a node for C: each call is given C's own struct, in which a `Node` of `nr_machine` lies behind what it asks for.
 //!
 //! A call allocates nothing, and keeps no pointer once it has returned.
 #![tactic(auto)]
 
-mod asks;
-mod calls;
 mod codes;
 mod exports;
-mod kept;
-mod said;
-mod steps;
+mod node;
+mod numbers;
 
-pub use kept::Node;
-pub use said::Said;
+pub use node::Node;
+pub use numbers::Numbers;

@@ -13,9 +13,10 @@ use Rattle.vs_plan.specs.Shown.{IsShown}
 use Rattle.nrvs_plan_c.specs.declared.end.End.{End}
 use Rattle.nrvs_plan_c.specs.declared.kept.Call.{Call}
 use Rattle.nrvs_plan_c.specs.declared.kept.Plan.{Plan}
-use Rattle.nrvs_plan_c.specs.Kept.{IsSound, page_in, planner_in, request_in, target_in}
-use Rattle.nrvs_plan_c.specs.Next.{IsNextOf, IsPlanned}
-use Rattle.nrvs_plan_c.specs.inside.End.{IsRightFor, Stays}
+use Rattle.nrvs_plan_c.specs.Kept.{IsSound, IsWaiting, page_in, phase_in, planner_in, request_in, target_in}
+use Rattle.nrvs_plan_c.specs.Next.{IsNextOf, IsPlanned, status_in}
+use Rattle.nrvs_plan_c.specs.inside.End.{IsMade, IsRightFor, Stays}
+use Rattle.nrvs_plan_c.specs.inside.Seen.{IsSeen}
 use Rattle.nrvs_plan_c.proofs.CallKinds.{maps, planned_as}
 use Rattle.nrvs_plan_c.proofs.Keeping.{goes_down}
 use Rattle.nrvs_plan_c.proofs.Shown.{awaits_down, end_down, good_down, made_next}
@@ -63,3 +64,23 @@ pub made_for : {memory : Memory} {call : Call} {after : Plan} → after.call ≡
     → IsNextOf memory after [] 0
 made_for {memory} {call} {after} same planned =
     made_next (subst (λ (k : Call). IsPlanned (target_in k) (request_in k) memory after []) (sym same) planned)
+
+-- so it was, by the words that were shown
+pub made_seen : {words : List ℕ} {old new : Plan} → IsMade new → new.call ≡ old.call
+    → ((memory : Memory) → IsShown memory (planner_in old) → finite.get memory old.frame ≡ Some words
+    → IsPlanned (target_in old.call) (request_in old.call) memory new [])
+    → IsSeen words old new 0
+made_seen {words} {old} {new} made same right = record {
+  asked = λ is. omega (arith, is);
+  status = ap (λ (p : ℕ). status_in (phase_in p)) (sym made.ended);
+  ended = λ is. made.ended;
+  named = λ is. let none = made.none in omega (arith, none);
+  sound = record {
+    room = let few = made.few in omega (arith, few);
+    waits = subst (λ (p : ℕ). IsWaiting (phase_in p) (planner_in new)) (sym made.ended) tt;
+  };
+  call = same;
+  fewer = λ is. absurd (omega (arith, is));
+  given = λ is. absurd (omega (arith, is));
+  next = λ memory shown there. made_for same (right memory shown there);
+}

@@ -2,3 +2,4 @@
 pub mod End
 pub mod Written
 pub mod Stepped
+pub mod Seen

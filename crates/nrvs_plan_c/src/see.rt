@@ -1,18 +1,16 @@
 //! What comes of the words of a frame that are shown: mostly the plan is changed where it is kept.
 ghost use Rattle.std.specs.Prelude.{◌≡◌, ◌≢◌, ◌%◌, ◌<◌, ◌≤◌, [], ℕ, Some, IsTrue, slice_index};
-ghost use Rattle.std.specs.FinMap as finite;
 ghost use Rattle.vs_types.specs.Depth.{index_at};
 ghost use Rattle.vs_types.specs.declared.frame.TheConstants.{FRAME_WORDS};
 ghost use Rattle.vs_walk.specs.Memory.{Memory};
 ghost use Rattle.vs_space.specs.Held.{word_at};
-ghost use Rattle.vs_plan.specs.declared.plan.TheConstants.{MOST_UNLINKED};
-ghost use Rattle.vs_plan.specs.Planner.{frames_given};
 ghost use Rattle.vs_plan.specs.Shown.{IsShown};
 ghost use Rattle.vs_plan.specs.Target.{highest_link};
-ghost use Rattle.nrvs_plan_c.specs.declared.codes.TheConstants.{BRIEF, DESCENT, ENDED, SEARCH};
-ghost use Rattle.nrvs_plan_c.specs.Kept.{IsSound, phase_in, planner_in, request_in, shows_left, target_in};
-ghost use Rattle.nrvs_plan_c.specs.Next.{IsNextOf, IsPlanned, status_in};
+ghost use Rattle.nrvs_plan_c.specs.declared.codes.TheConstants.{BRIEF, DESCENT, SEARCH};
+ghost use Rattle.nrvs_plan_c.specs.Kept.{IsSound, planner_in, request_in, target_in};
+ghost use Rattle.nrvs_plan_c.specs.Next.{IsPlanned};
 ghost use Rattle.nrvs_plan_c.specs.inside.End.{IsMade};
+ghost use Rattle.nrvs_plan_c.specs.inside.Seen.{IsSeen};
 
 use crate::begin::start;
 use crate::codes::{BRIEF, DESCENT};
@@ -29,17 +27,7 @@ pub(crate) fn see_each_once<W: FrameWords + Drop>(plan: &mut Plan, mut words: W)
     requires sound { IsSound plan.old }
     requires waits { plan.old.way.phase ≤ SEARCH }
     requires unread { (i : ℕ) → i < FRAME_WORDS → W.is_unread words i }
-    ensures asked { result ≢ 17 }
-    ensures status { result ≡ status_in (phase_in plan.new.way.phase) }
-    ensures ended { result ≡ 0 → plan.new.way.phase ≡ ENDED }
-    ensures named { result ≡ 0 → plan.new.unlinked_count ≤ MOST_UNLINKED }
-    ensures sound { IsSound plan.new }
-    ensures call { plan.new.call ≡ plan.old.call }
-    ensures fewer { result ≡ 32 → shows_left plan.new < shows_left plan.old }
-    ensures given { result ≡ 33 → frames_given (planner_in plan.new) ≡ [] }
-    ensures next { (memory : Memory) → IsShown memory (planner_in plan.old)
-        → finite.get memory plan.old.frame ≡ Some (W.words words)
-        → IsNextOf memory plan.new [] result }
+    ensures { IsSeen (W.words words) plan.old plan.new result }
 {
     if plan.way.phase <= DESCENT {
         return go_on_down(plan, words);
@@ -53,17 +41,7 @@ pub(crate) fn go_on_down<W: FrameWords + Drop>(plan: &mut Plan, mut words: W) ->
     requires sound { IsSound plan.old }
     requires descent { plan.old.way.phase ≤ DESCENT }
     requires unread { (i : ℕ) → i < FRAME_WORDS → W.is_unread words i }
-    ensures asked { result ≢ 17 }
-    ensures status { result ≡ status_in (phase_in plan.new.way.phase) }
-    ensures ended { result ≡ 0 → plan.new.way.phase ≡ ENDED }
-    ensures named { result ≡ 0 → plan.new.unlinked_count ≤ MOST_UNLINKED }
-    ensures sound { IsSound plan.new }
-    ensures call { plan.new.call ≡ plan.old.call }
-    ensures fewer { result ≡ 32 → shows_left plan.new < shows_left plan.old }
-    ensures given { result ≡ 33 → frames_given (planner_in plan.new) ≡ [] }
-    ensures next { (memory : Memory) → IsShown memory (planner_in plan.old)
-        → finite.get memory plan.old.frame ≡ Some (W.words words)
-        → IsNextOf memory plan.new [] result }
+    ensures { IsSeen (W.words words) plan.old plan.new result }
 {
     let word = words.read(index_at(plan.way.level, plan.call.address));
     if go_down(plan, word) {
@@ -81,17 +59,7 @@ fn end_way<W: FrameWords + Drop>(plan: &mut Plan, mut words: W, word: u64) -> u3
         (index_at plan.old.way.level plan.old.call.address) }
     requires unread { (i : ℕ) → i < FRAME_WORDS
         → i ≢ index_at plan.old.way.level plan.old.call.address → W.is_unread words i }
-    ensures asked { result ≢ 17 }
-    ensures status { result ≡ status_in (phase_in plan.new.way.phase) }
-    ensures ended { result ≡ 0 → plan.new.way.phase ≡ ENDED }
-    ensures named { result ≡ 0 → plan.new.unlinked_count ≤ MOST_UNLINKED }
-    ensures sound { IsSound plan.new }
-    ensures call { plan.new.call ≡ plan.old.call }
-    ensures fewer { result ≡ 32 → shows_left plan.new < shows_left plan.old }
-    ensures given { result ≡ 33 → frames_given (planner_in plan.new) ≡ [] }
-    ensures next { (memory : Memory) → IsShown memory (planner_in plan.old)
-        → finite.get memory plan.old.frame ≡ Some (W.words words)
-        → IsNextOf memory plan.new [] result }
+    ensures { IsSeen (W.words words) plan.old plan.new result }
 {
     if plan.way.phase == BRIEF {
         return end_brief(plan, words, word);
@@ -181,17 +149,7 @@ fn end_brief<W: FrameWords + Drop>(plan: &mut Plan, mut words: W, word: u64) -> 
         (index_at plan.old.way.level plan.old.call.address) }
     requires unread { (i : ℕ) → i < FRAME_WORDS
         → i ≢ index_at plan.old.way.level plan.old.call.address → W.is_unread words i }
-    ensures asked { result ≢ 17 }
-    ensures status { result ≡ status_in (phase_in plan.new.way.phase) }
-    ensures ended { result ≡ 0 → plan.new.way.phase ≡ ENDED }
-    ensures named { result ≡ 0 → plan.new.unlinked_count ≤ MOST_UNLINKED }
-    ensures sound { IsSound plan.new }
-    ensures call { plan.new.call ≡ plan.old.call }
-    ensures fewer { result ≡ 32 → shows_left plan.new < shows_left plan.old }
-    ensures given { result ≡ 33 → frames_given (planner_in plan.new) ≡ [] }
-    ensures next { (memory : Memory) → IsShown memory (planner_in plan.old)
-        → finite.get memory plan.old.frame ≡ Some (W.words words)
-        → IsNextOf memory plan.new [] result }
+    ensures { IsSeen (W.words words) plan.old plan.new result }
 {
     if plan.way.level == 1 && plan.call.kind == 1 {
         let end = end_of(plan, word);
@@ -222,18 +180,9 @@ pub(crate) fn search<W: FrameWords>(plan: &mut Plan, words: &mut W) -> u32
     requires waits { plan.old.way.phase ≤ SEARCH }
     requires searches { DESCENT < plan.old.way.phase }
     requires unread { (i : ℕ) → i < FRAME_WORDS → W.is_unread words.old i }
-    ensures asked { result ≢ 17 }
-    ensures status { result ≡ status_in (phase_in plan.new.way.phase) }
-    ensures ended { result ≡ 0 → plan.new.way.phase ≡ ENDED }
-    ensures named { result ≡ 0 → plan.new.unlinked_count ≤ MOST_UNLINKED }
-    ensures sound { IsSound plan.new }
-    ensures call { plan.new.call ≡ plan.old.call }
+    ensures seen { IsSeen (W.words words.old) plan.old plan.new result }
     ensures phase { 1 ≤ plan.new.way.phase }
-    ensures fewer { result ≡ 32 → plan.new.way.level < plan.old.way.level }
-    ensures given { result ≡ 33 → frames_given (planner_in plan.new) ≡ [] }
-    ensures next { (memory : Memory) → IsShown memory (planner_in plan.old)
-        → finite.get memory plan.old.frame ≡ Some (W.words words.old)
-        → IsNextOf memory plan.new [] result }
+    ensures level { result ≡ 32 → plan.new.way.level < plan.old.way.level }
 {
     search_by(&mut open(plan), plan, words)
 }
@@ -247,18 +196,9 @@ fn search_by<W: FrameWords>(planner: &mut Planner, plan: &mut Plan, words: &mut 
     requires planner { planner.old ≡ planner_in plan.old }
     requires target { planner.old.target ≡ target_in plan.old.call }
     requires unread { (i : ℕ) → i < FRAME_WORDS → W.is_unread words.old i }
-    ensures asked { result ≢ 17 }
-    ensures status { result ≡ status_in (phase_in plan.new.way.phase) }
-    ensures ended { result ≡ 0 → plan.new.way.phase ≡ ENDED }
-    ensures named { result ≡ 0 → plan.new.unlinked_count ≤ MOST_UNLINKED }
-    ensures sound { IsSound plan.new }
-    ensures call { plan.new.call ≡ plan.old.call }
+    ensures seen { IsSeen (W.words words.old) plan.old plan.new result }
     ensures phase { 1 ≤ plan.new.way.phase }
-    ensures fewer { result ≡ 32 → plan.new.way.level < plan.old.way.level }
-    ensures given { result ≡ 33 → frames_given (planner_in plan.new) ≡ [] }
-    ensures next { (memory : Memory) → IsShown memory (planner_in plan.old)
-        → finite.get memory plan.old.frame ≡ Some (W.words words.old)
-        → IsNextOf memory plan.new [] result }
+    ensures level { result ≡ 32 → plan.new.way.level < plan.old.way.level }
 {
     let step = planner.see(words);
     go_on(plan, planner, &step)
@@ -271,17 +211,7 @@ pub(crate) fn search_these<W: FrameWords + Drop>(plan: &mut Plan, mut words: W) 
     requires waits { plan.old.way.phase ≤ SEARCH }
     requires searches { DESCENT < plan.old.way.phase }
     requires unread { (i : ℕ) → i < FRAME_WORDS → W.is_unread words i }
-    ensures asked { result ≢ 17 }
-    ensures status { result ≡ status_in (phase_in plan.new.way.phase) }
-    ensures ended { result ≡ 0 → plan.new.way.phase ≡ ENDED }
-    ensures named { result ≡ 0 → plan.new.unlinked_count ≤ MOST_UNLINKED }
-    ensures sound { IsSound plan.new }
-    ensures call { plan.new.call ≡ plan.old.call }
-    ensures fewer { result ≡ 32 → shows_left plan.new < shows_left plan.old }
-    ensures given { result ≡ 33 → frames_given (planner_in plan.new) ≡ [] }
-    ensures next { (memory : Memory) → IsShown memory (planner_in plan.old)
-        → finite.get memory plan.old.frame ≡ Some (W.words words)
-        → IsNextOf memory plan.new [] result }
+    ensures { IsSeen (W.words words) plan.old plan.new result }
 {
     search(plan, &mut words)
 }
@@ -295,17 +225,7 @@ fn follow<W: FrameWords + Drop>(plan: &mut Plan, mut words: W, word: u64) -> u32
         (index_at plan.old.way.level plan.old.call.address) }
     requires unread { (i : ℕ) → i < FRAME_WORDS
         → i ≢ index_at plan.old.way.level plan.old.call.address → W.is_unread words i }
-    ensures asked { result ≢ 17 }
-    ensures status { result ≡ status_in (phase_in plan.new.way.phase) }
-    ensures ended { result ≡ 0 → plan.new.way.phase ≡ ENDED }
-    ensures named { result ≡ 0 → plan.new.unlinked_count ≤ MOST_UNLINKED }
-    ensures sound { IsSound plan.new }
-    ensures call { plan.new.call ≡ plan.old.call }
-    ensures fewer { result ≡ 32 → shows_left plan.new < shows_left plan.old }
-    ensures given { result ≡ 33 → frames_given (planner_in plan.new) ≡ [] }
-    ensures next { (memory : Memory) → IsShown memory (planner_in plan.old)
-        → finite.get memory plan.old.frame ≡ Some (W.words words)
-        → IsNextOf memory plan.new [] result }
+    ensures { IsSeen (W.words words) plan.old plan.new result }
 {
     follow_by(&mut open(plan), plan, &mut words, word)
 }
@@ -321,17 +241,7 @@ fn follow_by<W: FrameWords>(planner: &mut Planner, plan: &mut Plan, words: &mut 
         (index_at plan.old.way.level plan.old.call.address) }
     requires unread { (i : ℕ) → i < FRAME_WORDS
         → i ≢ index_at plan.old.way.level plan.old.call.address → W.is_unread words.old i }
-    ensures asked { result ≢ 17 }
-    ensures status { result ≡ status_in (phase_in plan.new.way.phase) }
-    ensures ended { result ≡ 0 → plan.new.way.phase ≡ ENDED }
-    ensures named { result ≡ 0 → plan.new.unlinked_count ≤ MOST_UNLINKED }
-    ensures sound { IsSound plan.new }
-    ensures call { plan.new.call ≡ plan.old.call }
-    ensures fewer { result ≡ 32 → shows_left plan.new < shows_left plan.old }
-    ensures given { result ≡ 33 → frames_given (planner_in plan.new) ≡ [] }
-    ensures next { (memory : Memory) → IsShown memory (planner_in plan.old)
-        → finite.get memory plan.old.frame ≡ Some (W.words words.old)
-        → IsNextOf memory plan.new [] result }
+    ensures { IsSeen (W.words words.old) plan.old plan.new result }
 {
     let step = planner.follow(word, words);
     go_on(plan, planner, &step)

@@ -1,6 +1,6 @@
 use Rattle.std.proofs.Common.{subst, sym, ◌∙◌}
 use Rattle.nr_machine.specs.inside.Told.{IsTold}
-use Rattle.nr_machine.proofs.Told.{told_append, told_other}
+use Rattle.nr_machine.proofs.Heads.{told_append, told_other}
 use Rattle.nr_machine.proofs.node.Node.swap.Goals as goal
 
 pub returns-then-head-packed : goal.returns-then-head-packed

@@ -1,13 +1,13 @@
 //! What a machine asks for, in numbers.
 ghost use Rattle.std.specs.Prelude.{◌≡◌};
-ghost use Rattle.nrvs_nodes_c.specs.Said.{said_of, said_of_operation, said_of_word};
+ghost use Rattle.nrvs_nodes_c.specs.Numbers.{numbers_of, numbers_of_operation, numbers_of_word};
 
 use nr_machine::{Asked, Operation, Update, Word};
 
 /// What is asked for: its code, and what it has; what it doesn't have is 0.
 #[repr(C)]
 #[derive(Clone, Copy, Debug, Default, PartialEq, Eq)]
-pub struct Said {
+pub struct Numbers {
     /// 0 nothing, 1 a load, 2 a store, 3 an exchange, 4 a maximum, 5 that an entry is applied, 6 that a node takes entries, 7 broken.
     pub code: u32,
     /// Which word: 0 head, 1 completed, 2 local, 3 done, 4 and 5 the first and second word of an entry.
@@ -24,62 +24,63 @@ pub struct Said {
     pub entry: Update,
 }
 
-impl Said {
+impl Numbers {
     /// The numbers of what is asked for.
-    pub(crate) fn of(asked: Asked) -> Said
-        ensures { result ≡ said_of asked }
+    #[inline(always)]
+    pub(crate) fn of(asked: Asked) -> Numbers
+        ensures { result ≡ numbers_of asked }
     {
         match asked {
-            Asked::Carry(operation) => Said::of_operation(operation),
-            Asked::Apply(entry) => Said {
+            Asked::Carry(operation) => Numbers::of_operation(operation),
+            Asked::Apply(entry) => Numbers {
                 code: 5,
                 entry,
-                ..Said::of_word(Word::Head)
+                ..Numbers::of_word(Word::Head)
             },
-            Asked::Lags(node) => Said {
+            Asked::Lags(node) => Numbers {
                 code: 6,
                 node,
-                ..Said::of_word(Word::Head)
+                ..Numbers::of_word(Word::Head)
             },
-            Asked::Done => Said::of_word(Word::Head),
-            Asked::Broken => Said {
+            Asked::Done => Numbers::of_word(Word::Head),
+            Asked::Broken => Numbers {
                 code: 7,
-                ..Said::of_word(Word::Head)
+                ..Numbers::of_word(Word::Head)
             },
         }
     }
 
     /// The numbers of an operation.
-    fn of_operation(operation: Operation) -> Said
-        ensures { result ≡ said_of_operation operation }
+    fn of_operation(operation: Operation) -> Numbers
+        ensures { result ≡ numbers_of_operation operation }
     {
         match operation {
-            Operation::Load(word) => Said {
+            Operation::Load(word) => Numbers {
                 code: 1,
-                ..Said::of_word(word)
+                ..Numbers::of_word(word)
             },
-            Operation::Store(word, value) => Said {
+            Operation::Store(word, value) => Numbers {
                 code: 2,
                 value,
-                ..Said::of_word(word)
+                ..Numbers::of_word(word)
             },
-            Operation::Exchange(word, value, new_value) => Said {
+            Operation::Exchange(word, value, new_value) => Numbers {
                 code: 3,
                 value,
                 new_value,
-                ..Said::of_word(word)
+                ..Numbers::of_word(word)
             },
-            Operation::Max(word, value) => Said {
+            Operation::Max(word, value) => Numbers {
                 code: 4,
                 value,
-                ..Said::of_word(word)
+                ..Numbers::of_word(word)
             },
         }
     }
 
     /// The numbers of a word, with nothing else.
-    fn of_word(word: Word) -> Said
-        ensures { result ≡ said_of_word word }
+    fn of_word(word: Word) -> Numbers
+        ensures { result ≡ numbers_of_word word }
     {
         let (word, node, index) = match word {
             Word::Head => (0, 0, 0),
@@ -89,7 +90,7 @@ impl Said {
             Word::First(node, index) => (4, node, index),
             Word::Second(node, index) => (5, node, index),
         };
-        Said {
+        Numbers {
             code: 0,
             word,
             node,
