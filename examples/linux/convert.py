@@ -16,6 +16,7 @@ How, and why so, is in README.md. Nothing here is verified, and nothing depends 
 """
 import argparse
 import collections
+import functools
 import lzma
 import os
 import sys
@@ -29,11 +30,14 @@ from log_lines import (Access, Born, Dumped, End, Entered, Entry, Fault, Flushed
                        Symbol, Table, Word)
 from page_tables import BYTES, Change, Page, PageTables
 from chain_bytes import Segment
-from promises import MUNMAP, PROTECTS, Promises, allowed_by, rounded
+from promises import MUNMAP, PROTECTS, Promises, allowed_by, rounded, taken_away
 from trace_bytes import ACCESS, ALLOWED, CHANGED, DONE, FAULT, MAP, PROTECT, REMOVED, UNMAP, Frames, Trace
 from windows import EVERYTHING, Update, Windows
 
 PROCESSORS = 8                  # threads 0 to 7 are the processors' accesses, the others updates under way
+# What a yes says something about: where none of these was met, it says little
+BETWEEN, ENDED, GIVEN = MET = ("accesses between a store and its flush", "updates that another task's flush ended",
+                               "releases while something wasn't flushed")
 MORE = "pages that allow more than a system call said"
 LATER = "pages that were stored later, and allow more than a system call said"
 MOST_STORED = 4096              # pages of a task that isn't seen in user mode: of a thread of the kernel's own, say
@@ -70,6 +74,7 @@ class Converter:
     pages: dict[int, Page] = field(default_factory=dict)                    # after the log as it is
     promised: set[int] = field(default_factory=set)                         # bases where a system call's promise is, not a store
     latest: dict[int, tuple[int, int]] = field(default_factory=dict)        # by base: place and task of the latest update
+    given: dict[int, int] = field(default_factory=dict)                     # by base: place of the latest one that gives something
     windows: Windows = field(default_factory=Windows)
     flushing: dict[int, int] = field(default_factory=dict)                  # by task: places when its flush by all processors began
     entered: dict[int, int] = field(default_factory=dict)                   # by task: places when its system call began
@@ -117,6 +122,8 @@ class Converter:
         self.latest[change.base] = (update.number, task)
         if takes_away:
             self.windows.add(update, task)
+        if after and (not change.before or after.rights & ~change.before.rights):
+            self.given[change.base] = update.number
         if not waits:
             self.reply(update)
         self.apply(change)
@@ -149,7 +156,9 @@ class Converter:
     def flushed(self, line: Flushed) -> None:
         """A task has flushed for itself, and, where it is known when it began, by all processors for what was stored before."""
         self.answer(self.windows.flushed(*line[1:]), f"flushed by its task on processor {line.processor}")
-        over = self.windows.flushed_for_others(*line[1:], self.flushing.pop(line.task, 0))
+        began = self.flushing.pop(line.task, 0)
+        over = self.windows.over_for_others(*line[1:], lambda _: began)
+        self.counts[ENDED] += len(over)
         self.answer(over, f"flushed by another task on processor {line.processor}")
 
     # ---- stores ----
@@ -190,6 +199,7 @@ class Converter:
             return
         if isinstance(self.trace, Segment):
             call = self.trace.touch(processor % PROCESSORS, address, access, is_user, *answer)
+            self.counts[BETWEEN] += self.windows.is_between(address)
         elif self.windows.is_between(address) and not self.options.every_access:
             self.counts["left out: accesses between a store and its flush"] += 1
             return
@@ -210,6 +220,7 @@ class Converter:
         if not isinstance(self.trace, Segment) or not self.options.releases:
             return
         for size, physical in parts_of(line.frame, line.count):
+            self.counts[GIVEN] += bool(self.windows.open)
             call = self.trace.release(line.processor % PROCESSORS, size, physical)
             self.sources.append(Source(self.name(call), f"task {line.task:x}", line.pcs))
             self.counts["releases"] += 1
@@ -246,9 +257,19 @@ class Converter:
     def returned(self, line: Returned) -> None:
         """After mprotect or munmap no page of its range allows more than it said: where one does, the log has what was promised."""
         self.promises.returned(*line)
+        if taken := taken_away(line):
+            begin, end, allowed = taken
+            over = self.windows.over_for_others(line.task, begin, end, functools.partial(self.last_promised, line.task), allowed)
+            self.answer(over, "promised by the return of another task's system call")
         if line.number in (*PROTECTS, MUNMAP) and not line.result:
             self.look_at_range(line)
         self.look_at_stored(line.task)
+
+    def last_promised(self, task: int, base: int) -> int:
+        """The updates of a page up to which the call of a task says that what they took away is over: all that there are, where nothing
+        was given to the page since the call began. Else it may have been given, and taken away again, when the call had done its work."""
+        entered = self.entered.get(task, 0)
+        return EVERYTHING if self.given.get(base, -1) < entered else entered
 
     def look_at_range(self, line: Returned) -> None:
         begin, length, protection, *_ = line.arguments
@@ -378,7 +399,9 @@ class Converter:
         """One line for what is in the trace, and one for each that isn't."""
         kinds = ["stores", "maps", "unmaps", "protects", "accesses", "page faults", *(["releases"] if self.options.chain else [])]
         lines = [", ".join(f"{self.counts[kind]} {kind}" for kind in kinds) + f", {len(self.pages)} pages at the end"]
-        lines += [f"{kind}: {count}" for kind, count in sorted(self.counts.items()) if kind not in kinds and count]
+        if self.options.chain:
+            lines.append("met: " + ", ".join(f"{self.counts[kind]} {kind}" for kind in MET))
+        lines += [f"{kind}: {count}" for kind, count in sorted(self.counts.items()) if kind not in (*kinds, *MET) and count]
         return "\n".join(lines + self.notes)
 
     def calls(self) -> str:

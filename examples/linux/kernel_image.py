@@ -215,10 +215,10 @@ class Files:
     modules: list[str]
 
 
-def modules_of(image: str, version: str) -> list[str]:
-    """KVM's, where the package of the image has them."""
+def modules_of(image: str, version: str, names: Iterable[str] = MODULES) -> list[str]:
+    """KVM's or others, where the package of the image has all of them."""
     folder = f"{os.path.dirname(os.path.dirname(os.path.abspath(image)))}/lib/modules/{version}/kernel"
-    found = [glob.glob(f"{folder}/{each}.ko") + glob.glob(f"{folder}/{each}.ko.xz") for each in MODULES]
+    found = [glob.glob(f"{folder}/{each}.ko") + glob.glob(f"{folder}/{each}.ko.xz") for each in names]
     return [each[0] for each in found] if all(found) else []
 
 

@@ -16,7 +16,7 @@ import debian
 import kernel_image
 from debian import Missing, said
 from kernel_image import COMMAND_LINE, Files, Kernel
-from plants import Code
+from plants import RESTS, REST_PLACES, Code
 from stub import Stub
 
 HERE = os.path.dirname(os.path.abspath(__file__))
@@ -50,7 +50,8 @@ class Guest:
     processors: int = 1
     levels: int = 4
     isolated: bool = False
-    rest: int = 0
+    rest: int = 0                   # 0, or: at each so many places processors rest, so that others run,
+    rest_at: str = RESTS            # .. and which places these are
     memory: int = 1024              # MiB; below 3,584, where QEMU's machine has all of it from 0 on
     code: tuple[Code, ...] = ()     # what is overwritten when the guest says so
     package: str = ""               # of Debian, unpacked in the guest with all that it depends on
@@ -58,7 +59,7 @@ class Guest:
     monitor: bool = False           # .. and a process too, by a second copy of the plugin
     files: tuple[str, ...] = ()     # more files, for its /bin
     setup: str = ""                 # lines of init before that, when the kernel's modules are inserted
-    modules: tuple[str, ...] = ()   # of the kernel, to be inserted first: of our own by name (module/), others by file
+    modules: tuple[str, ...] = ()   # of the kernel, to be inserted first: of our own by name (module/), others by file or folder
     options: str = ""               # of the kernel's command line, with one before them
     maps: bool = False              # what its kernel says of a process's mappings comes by a serial line, to NAME.maps
     has_line: bool = False          # there is a line to it, and a debugger's stub, without such code too
@@ -74,9 +75,14 @@ def put(file: str, folder: str) -> None:
 
 
 def module_file(kernel: Kernel, module: str) -> str:
-    """A module's file; one of our own is built for this kernel."""
+    """A module's file; one of our own is built for this kernel, and one of Debian's is named by its folder."""
     if module.endswith((".ko", ".ko.xz")):
         return module
+    if "/" in module:
+        found = kernel_image.modules_of(kernel.image, kernel.version, (module,))
+        if not found:
+            raise Missing(f"no module {module} for {kernel.image}: it is looked for where Debian's package has it")
+        return found[0]
     headers = f"/lib/modules/{kernel.version}/build"
     if not os.path.isdir(headers):
         raise Missing(f"no {headers}: apt-get install --no-install-recommends linux-headers-{kernel.version} make")
@@ -211,7 +217,8 @@ def plant(name: str, guest: Guest, kernel: Kernel, qemu: subprocess.Popen[bytes]
 
 def plugins(memory: str, guest: Guest, kernel: Kernel) -> list[str]:
     """The plugins, with what each gets to know."""
-    told = [f"memory={memory}", f"levels={guest.levels}", f"isolated={int(guest.isolated)}", f"rest={guest.rest}"]
+    told = [f"memory={memory}", f"levels={guest.levels}", f"isolated={int(guest.isolated)}", f"rest={guest.rest}",
+            f"rest_at={sum(REST_PLACES[each] for each in guest.rest_at.split(','))}"]
     watched = kernel.nested_settings() if guest.nested else kernel.settings()
     words = ["-plugin", ",".join([f"{OUT}/{plugin()}", *told, *watched])]
     if guest.monitor:

@@ -5,17 +5,19 @@ import os
 import re
 import socket
 import subprocess
+import sys
 import threading
 import time
 from collections.abc import Iterable
-from dataclasses import dataclass, field
+from dataclasses import dataclass, field, replace
+from typing import NamedTuple
 
 import chains
 import machine
 import stale
 from debian import Missing
 from kernel_image import Kernel
-from plants import Plant
+from plants import RESTS, Plant
 from programs import Program
 from stub import Stub
 from workloads import WITHOUT_TICKS
@@ -31,6 +33,16 @@ AGAIN = re.compile("^@marked [0-9]+ [0-9a-f]+ 5$")
 WRONG = re.compile("^WRONG|BUG:|Bad page|segfault|Oops", re.M)
 
 
+class Kind(NamedTuple):
+    """Of a boot: runs that differ in this need another one."""
+    is_nested: bool = False
+    package: str = ""           # of Debian, in the guest
+    rest: int = 0
+    rest_at: str = RESTS
+    modules: tuple[str, ...] = ()
+    setup: str = ""
+
+
 @dataclass
 class Run:
     """One run: what came of it."""
@@ -43,6 +55,8 @@ class Run:
     seconds: float = 0.0
     failure: str = ""                                       # why there is no verdict
     tries: int = 1
+    times: int = 0                                          # so often it was to be run, and
+    found: int = 0                                          # .. in so many of these runs it was a no
 
     def is_missed(self) -> bool:
         """A bug that a processor can see, and in this run none did: QEMU went to another processor at other times."""
@@ -54,11 +68,17 @@ class Run:
     def is_as_expected(self) -> bool:
         return not self.failure and self.is_found() == (isinstance(self.what, Plant) and self.what.is_seen)
 
+    def counted(self, found: int) -> "Run":
+        self.found = found
+        return self
+
     def is_nested(self) -> bool:
         return isinstance(self.what, Plant) and bool(self.what.nested)
 
-    def package(self) -> str:
-        return self.what.package if isinstance(self.what, Program) else ""
+    def kind(self) -> "Kind":
+        if isinstance(self.what, Program):
+            return Kind(package=self.what.package)
+        return Kind(self.is_nested(), "", self.what.rest, self.what.rest_at, self.what.modules, self.what.setup)
 
     def commands(self, seed: int) -> list[str]:
         """What init runs, so that it is watched."""
@@ -99,17 +119,27 @@ def script(runs: list[Run], seed: int) -> str:
     return "\n".join(lines) + "\n"
 
 
+@dataclass(frozen=True)
+class Schedule:
+    """How often runs are made, and with which seeds."""
+    seed: int
+    times: int = 0          # each so often; 0: once, and again with other seeds where a bug was missed, some times at most
+    keep_log: bool = False
+
+
 class Boot:
     """One boot, for the runs that it comes to."""
 
-    def __init__(self, name: str, kernel: Kernel, runs: list[Run], seed: int) -> None:
-        nested, package = runs[0].is_nested(), runs[0].package()
+    def __init__(self, name: str, kernel: Kernel, runs: list[Run], schedule: Schedule) -> None:
+        nested, package, rest, rest_at, modules, setup = runs[0].kind()
         options = WITHOUT_TICKS[PROCESSORS] if nested else ""
         makers = {run.what.files for run in runs if isinstance(run.what, Program) and run.what.files}
         files = tuple(file for make in makers for file in make(machine.OUT))
-        self.guest = machine.Guest(script(runs, seed), PROCESSORS, has_line=True, nested=nested, monitor=nested, options=options,
-                                   package=package, files=files, memory=MEMORY if package or files else 1024)
+        self.guest = machine.Guest(script(runs, schedule.seed), PROCESSORS, has_line=True, nested=nested, monitor=nested, options=options,
+                                   package=package, files=files, memory=MEMORY if package or files else 1024, rest=rest,
+                                   rest_at=rest_at, modules=modules, setup=setup)
         self.name, self.kernel, self.runs = name, kernel, {run.name: run for run in runs}
+        self.keep = ["log"] if schedule.keep_log else []
         self.tags = [machine.TAG, machine.SECOND_TAG] if nested else [machine.TAG]
         self.chains: list[chains.Chain] = []
         self.begun: list[Run] = []          # in order; the last one goes on
@@ -180,7 +210,7 @@ class Boot:
         run = list(self.runs.values())[len(self.begun)]
         paths = [f"{machine.OUT}/{self.name}-{run.name}-{number}" for number in range(len(self.tags))]
         earlier = self.chains or [None] * len(self.tags)
-        self.chains = [chains.begin(path, self.kernel.place, tag, UPDATES, before=before)
+        self.chains = [chains.begin(path, self.kernel.place, tag, UPDATES, self.keep, before)
                        for path, tag, before in zip(paths, self.tags, earlier)]
         self.begun.append(run)
 
@@ -204,23 +234,40 @@ class Boot:
         return self.begun
 
 
-def record(kernel: Kernel, runs: list[Run], seed: int) -> None:
-    """Each run, and those of bugs that nobody met again with other seeds, some times at most."""
-    record_once(kernel, runs, seed)
+def record(kernel: Kernel, runs: list[Run], schedule: Schedule) -> None:
+    """Each run, as often as the schedule says."""
+    if schedule.times:
+        record_times(kernel, runs, schedule)
+        return
+    record_once(kernel, runs, schedule)
     for tries in range(2, TRIES + 1):
         again = [Run(run.name, run.what, tries=tries) for run in runs if run.is_missed()]
-        record_once(kernel, again, seed + tries - 1)
+        record_once(kernel, again, replace(schedule, seed=schedule.seed + tries - 1))
         by_name = {run.name: run for run in again}
         runs[:] = [by_name.get(run.name, run) for run in runs]
 
 
-def record_once(kernel: Kernel, runs: list[Run], seed: int) -> None:
-    """Each run once, in as few boots as it takes: one for each package, and after one that doesn't end comes another."""
-    kinds = {(run.is_nested(), run.package()): None for run in runs}
-    for kind in kinds:
-        todo = [run for run in runs if (run.is_nested(), run.package()) == kind]
+def record_times(kernel: Kernel, runs: list[Run], schedule: Schedule) -> None:
+    """Each run so often, each time with another seed; what stays is the first with a no, or else the last."""
+    for number in range(schedule.times):
+        again = [Run(run.name, run.what, times=schedule.times) for run in runs]
+        record_once(kernel, again, replace(schedule, seed=schedule.seed + number))
+        for run in again:
+            run.found = run.is_found()
+        if number:
+            again = [(old if old.is_found() else new).counted(old.found + new.found) for old, new in zip(runs, again)]
+        runs[:] = again
+
+
+def record_once(kernel: Kernel, runs: list[Run], schedule: Schedule) -> None:
+    """Each run once, in as few boots as it takes: one for each kind, and after one that doesn't end comes another."""
+    for kind in dict.fromkeys(run.kind() for run in runs):
+        todo = [run for run in runs if run.kind() == kind]
         while todo:
-            done = Boot(f"many-{os.getpid()}-{len(todo)}", kernel, todo, seed).record()
+            done = Boot(f"many-{os.getpid()}-{len(todo)}", kernel, todo, schedule).record()
             if not done:
                 raise Missing("the guest didn't come to its first run")
+            for run in done:
+                said = run.failure or ", ".join(run.verdicts)
+                print(f"# seed {schedule.seed}, {run.name}: {said}, {run.seconds:.0f} seconds", file=sys.stderr, flush=True)
             todo = todo[len(done):]

@@ -17,6 +17,11 @@ BRANCH_TARGET = bytes.fromhex("f30f1efa")       # endbr64
 PAGE_SHORT = bytes.fromhex("488d8100f0ffff4839d0480f47c8c3")
 CALL = 0xE8
 AT_ONCE = 16    # bytes of code
+MOST_ADDED = 48
+# Where processors may rest: at stores that take something away, where the flush of such stores begins, at stores to tables of tables, and
+# where a processor begins such a flush that has another address space loaded
+REST_PLACES = {"stores": 1, "flushes": 2, "tables": 4, "others": 8}
+RESTS = "stores,flushes"
 
 
 @dataclass(frozen=True)
@@ -29,6 +34,14 @@ class Replaced:
         stub.write(kernel.address(self.function), self.code)
 
 
+def room(kernel: Kernel, function: str, length: int) -> int:
+    """Where so many bytes of code may be put: in place of a function that nobody calls here."""
+    place = kernel.address(function)
+    if kernel.end(function) - place < length:
+        raise Missing(f"{function} of this kernel, {kernel.version}, has no room for {length} bytes")
+    return place
+
+
 @dataclass(frozen=True)
 class Detoured:
     """The function begins with a call of other code, which is put where a function was that nobody calls here. The kernel leaves five bytes
@@ -38,13 +51,13 @@ class Detoured:
     place: str = "orderly_reboot"
 
     def plant(self, kernel: Kernel, stub: Stub) -> None:
-        begin, place = kernel.address(self.function), kernel.address(self.place)
+        begin = kernel.address(self.function)
         at = stub.read(begin, 16).find(NOTHING)
-        if at not in (0, len(BRANCH_TARGET)) or kernel.end(self.place) - place < len(self.code):
+        if at not in (0, len(BRANCH_TARGET)):
             raise Missing(f"{self.function} of this kernel, {kernel.version}, has no room for a call at its begin")
+        place = room(kernel, self.place, len(self.code))
         stub.write(place, self.code)
-        distance = place - (begin + at + len(NOTHING))
-        stub.write(begin + at, bytes([CALL]) + distance.to_bytes(4, "little", signed=True))
+        stub.write(begin + at, call(begin + at, place))
 
 
 @dataclass(frozen=True)
@@ -78,7 +91,51 @@ class Silenced:
             stub.write(place, NOTHING)
 
 
-Code = Replaced | Detoured | Silenced
+@dataclass(frozen=True)
+class Patched:
+    """The function has other bytes at the one place where these are."""
+    function: str
+    before: bytes
+    after: bytes
+
+    def plant(self, kernel: Kernel, stub: Stub) -> None:
+        begin = kernel.address(self.function)
+        code = stub.read(begin, kernel.end(self.function) - begin)
+        if code.count(self.before) != 1:
+            raise Missing(f"{self.function} of this kernel, {kernel.version}, has {self.before.hex()} {code.count(self.before)} times: "
+                          "another compiler made it, or its source is another")
+        stub.write(begin + code.index(self.before), self.after)
+
+
+@dataclass(frozen=True)
+class FlushedLate:
+    """The function makes a call as before, of six arguments at most, the first of which is a mapping; all of the address space is flushed
+    when that has returned. The code for it is put where a function was that nobody calls here."""
+    function: str
+    called: str
+    place: str = "poweroff_work_func"
+
+    def plant(self, kernel: Kernel, stub: Stub) -> None:
+        begin, place = kernel.address(self.function), room(kernel, self.place, MOST_ADDED)
+        calls = Silenced(self.function, self.called).places(kernel, stub.read(begin, kernel.end(self.function) - begin), self.called)
+        space = kernel.offset("vm_area_struct", "vm_mm")
+        # push %rbx; mov %rdi, %rbx; call; push %rax; mov space(%rbx), %rdi; from 0 to the end, small pages, no freed tables: call; pop both
+        code = bytes.fromhex("534889fb") + call(place + 4, kernel.address(self.called))
+        code += bytes.fromhex(f"50488b7b{space:02x}31f648c7c2ffffffffb90c0000004531c0")
+        code += call(place + len(code), kernel.address("flush_tlb_mm_range")) + bytes.fromhex("585bc3")
+        if not calls:
+            raise Missing(f"{self.function} of this kernel, {kernel.version}, doesn't call {self.called}")
+        stub.write(place, code)
+        for each in calls:
+            stub.write(each, call(each, place))
+
+
+def call(at: int, target: int) -> bytes:
+    """A call of the function there, from this place."""
+    return bytes([CALL]) + (target - (at + len(NOTHING))).to_bytes(4, "little", signed=True)
+
+
+Code = Replaced | Detoured | Silenced | Patched | FlushedLate
 
 
 @dataclass(frozen=True)
@@ -93,6 +150,10 @@ class Plant:
     nested: str = ""            # a monitor of KVM meets it: what this does
     is_seen: bool = True        # by a processor, or where memory is freed: else the verdict is yes
     is_given: bool = False      # it is seen where memory is freed, so only in a chain
+    rest: int = 0               # at each so many places processors rest, so that others meet what isn't flushed yet,
+    rest_at: str = RESTS        # .. and which places these are
+    modules: tuple[str, ...] = ()   # of the guest's kernel, as machine.module_file takes them
+    setup: str = ""             # lines of init before it
 
 
 PLANTS = {
@@ -139,7 +200,23 @@ PLANTS = {
 }
 
 
-def with_others(path: str) -> dict[str, Plant]:
+def rest_at(text: str) -> str:
+    """Places where processors may rest, parted by commas, or none; ValueError where there is no such place."""
+    if text and not all(each in REST_PLACES for each in text.split(",")):
+        raise ValueError(f"there are {', '.join(REST_PLACES)}")
+    return text
+
+
+def joined(*tables: dict[str, Plant]) -> dict[str, Plant]:
+    """All of them; Missing where two have one name."""
+    names = [name for table in tables for name in table]
+    twice = sorted({name for name in names if names.count(name) > 1})
+    if twice:
+        raise Missing(f"names of two bugs: {', '.join(twice)}")
+    return {name: plant for table in tables for name, plant in table.items()}
+
+
+def with_others(path: str, known: dict[str, Plant] = PLANTS) -> dict[str, Plant]:
     """These, and those of a file of Python that says PLANTS = {NAME: Plant(..), ..} likewise; an empty path names none."""
     others = {}
     if path:
@@ -149,7 +226,7 @@ def with_others(path: str) -> dict[str, Plant]:
             raise Missing(f"{path}: {type(why).__name__}: {why}") from None
     if not isinstance(others, dict) or not all(isinstance(each, Plant) for each in others.values()):
         raise Missing(f"{path} doesn't say PLANTS = {{NAME: Plant(..), ..}}, as plants.py does")
-    both = sorted(set(others) & set(PLANTS))
+    both = sorted(set(others) & set(known))
     if both:
         raise Missing(f"{path} has names that are taken: {', '.join(both)}")
-    return {**PLANTS, **others}
+    return {**known, **others}

@@ -4,9 +4,11 @@ from collections.abc import Iterator
 from dataclasses import dataclass, field
 from typing import NamedTuple
 
+from log_lines import Returned
 from page_tables import EXEC, USER, WRITE
 
-MMAP, MPROTECT, MUNMAP, BRK, MREMAP, PKEY_MPROTECT = 9, 10, 11, 12, 25, 329
+MMAP, MPROTECT, MUNMAP, BRK, MREMAP, MADVISE, PKEY_MPROTECT = 9, 10, 11, 12, 25, 28, 329
+MADV_DONTNEED = 4
 OTHERS = (30, 67, 158, 206, 216, 453)       # shmat, shmdt, arch_prctl, io_setup, remap_file_pages, map_shadow_stack: where isn't known
 PROTECTS = (MPROTECT, PKEY_MPROTECT)
 PROT_WRITE, PROT_EXEC, PROT_ALL, PROT_GROWS = 2, 4, 7, 3 << 24
@@ -26,6 +28,19 @@ def allowed_by(protection: int) -> int:
 
 def rounded(length: int) -> int:
     return length + 4095 & -4096
+
+
+def taken_away(line: Returned) -> tuple[int, int, int | None] | None:
+    """What a call that succeeded says of what others took away before it began: from where to where nothing of it is left, or nothing that
+    allows more than this."""
+    first, second, third, *fourth = line.arguments
+    if line.number == MREMAP and not line.result & ERRORS and line.result != first and not (fourth and fourth[0] & MREMAP_DONTUNMAP):
+        return first, first + rounded(second), None
+    if line.result or line.number in PROTECTS and third & PROT_GROWS:
+        return None
+    if line.number == MUNMAP or line.number == MADVISE and third == MADV_DONTNEED:
+        return first, first + rounded(second), None
+    return (first, first + rounded(second), allowed_by(third)) if line.number in PROTECTS else None
 
 
 class Range(NamedTuple):

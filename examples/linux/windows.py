@@ -1,6 +1,6 @@
 """Updates that take something away and aren't flushed yet: until they are, a processor may see the old page or the new one."""
 import collections
-from collections.abc import Iterable
+from collections.abc import Callable, Iterable
 from dataclasses import dataclass, field
 
 from page_tables import BYTES, Change
@@ -48,13 +48,14 @@ class Windows:
         there = [(size, base) for size, base in sorted(self.owed.get(task, ())) if base < end and begin < base + BYTES[size]]
         return [update for window in there for update in self.end(window, task, EVERYTHING)]
 
-    def flushed_for_others(self, task: int, begin: int, end: int, before: int) -> list[Update]:
-        """By each processor: of pages that lie there, what other tasks stored before so many updates of the recording is over too."""
+    def over_for_others(self, task: int, begin: int, end: int, before: Callable[[int], int], allowed: int | None = None) -> list[Update]:
+        """By each processor: of pages that lie there, what other tasks stored before so many updates of the recording, by a page's
+        base, is over too; of pages that allowed more than this alone, if it is said."""
         over: list[Update] = []
         for size, base in sorted(self.open):
             if begin <= base and base + BYTES[size] <= end:
                 for other in [each for each in self.open[size, base] if each != task]:
-                    over += self.end((size, base), other, before)
+                    over += self.end((size, base), other, before(base), allowed)
         return over
 
     def given_away(self, begin: int, end: int) -> list[Update]:
@@ -66,11 +67,11 @@ class Windows:
                 over += self.flushed(task, base, base + 1)
         return over
 
-    def end(self, window: Window, task: int, before: int) -> Iterable[Update]:
+    def end(self, window: Window, task: int, before: int, allowed: int | None = None) -> Iterable[Update]:
         """A task's updates of a page that are over: those with a number below this one."""
         updates = self.open[window][task]
-        over = [update for update in updates if update.number < before]
-        del updates[:len(over)]
+        over = [update for update in updates if update.number < before and (allowed is None or update.change.before.rights & ~allowed)]
+        updates[:] = [update for update in updates if update not in over]
         if not updates:
             self.owed[task].discard(window)
             del self.open[window][task]

@@ -7,7 +7,7 @@ from dataclasses import dataclass
 import large_source
 from debian import Missing
 from machine import HERE, LIMIT, OUT, Guest
-from plants import Plant
+from plants import RESTS, Plant
 
 # But on processor 0, while one task runs there: each tick would end a machine's run. No processor that isn't there may be named.
 WITHOUT_TICKS = {2: " tsc=reliable nohz_full=1", 3: " tsc=reliable nohz_full=1-2"}
@@ -21,6 +21,7 @@ class Workload:
     processors: int = 1
     tick: int = 0               # microseconds after which a process wakes, so that QEMU goes to the next processor; 0: there is none
     rest: int = 0
+    rest_at: str = RESTS
     levels: int = 4
     isolated: bool = False
     package: str = ""
@@ -32,15 +33,15 @@ class Workload:
     limit: int = LIMIT          # seconds
     options: str = ""
     maps: bool = False          # its pages are compared with what the guest's kernel says of its mappings
-    module: str = ""            # one of ours (module/) for the guest's kernel
+    modules: tuple[str, ...] = ()   # of the guest's kernel, as machine.module_file takes them
     begin: str = ""             # lines of init before it
 
     def guest(self, seed: int, plant: Plant | None = None) -> Guest:
         command = f"/bin/workload {self.command.replace('SEED', str(seed))}"
         ticking = f"/bin/workload tick {self.tick} &\n" if self.tick else ""
-        return Guest(ticking + self.begin + command, self.processors, self.levels, self.isolated, self.rest, self.memory,
+        return Guest(ticking + self.begin + command, self.processors, self.levels, self.isolated, self.rest, self.rest_at, self.memory,
                      plant.code if plant else (), self.package, self.nested, self.monitor, (self.file(),) if self.file else (),
-                     modules=(self.module,) if self.module else (), options=self.options, maps=self.maps)
+                     modules=self.modules, options=self.options, maps=self.maps)
 
 
 WORKLOADS = {
@@ -89,7 +90,7 @@ WORKLOADS = {
                         "file:///bin/page.html", 2, 50, package="chromium-headless-shell", memory=3072,
                         file=lambda: f"{HERE}/guest/page.html", chain=10000, limit=3600),
     "driver": Workload("a driver's memory that one thread unmaps while another has the driver take it back, 2 processors",
-                       "live SEED 12 driver", 2, 50, rest=3, chain=1000, module="driver_memory"),
+                       "live SEED 12 driver", 2, 50, rest=3, chain=1000, modules=("driver_memory",)),
     "race": Workload("rests between stores and their flushes, so that other processors' accesses fall there, 3 processors",
                      "live SEED 12 shootdown", 3, 50, rest=25),
 }
@@ -100,7 +101,8 @@ def planted(plant: Plant) -> Workload:
     how, is_pair = plant.nested or "live", plant.nested == "pair"
     return Workload(plant.what, f"{how} SEED {plant.rounds} planted {plant.parts}", plant.processors, plant.tick, nested=bool(plant.nested),
                     monitor=is_pair, chain=1000 if is_pair or plant.is_given else 0,
-                    options=WITHOUT_TICKS[plant.processors] if plant.nested else "")
+                    options=WITHOUT_TICKS[plant.processors] if plant.nested else "", rest=plant.rest, rest_at=plant.rest_at,
+                    modules=plant.modules, begin=plant.setup)
 
 
 def own_program(text: str, is_planted: bool) -> tuple[str, Workload]:

@@ -19,6 +19,7 @@ from counting import check
 from debian import Missing
 from kernel_image import BATCH_FLUSHERS, FLUSHERS, NESTED_FLUSHERS, Kernel
 from linux_kernels import made_types
+from promises import MADV_DONTNEED, MADVISE, MPROTECT, MREMAP, MUNMAP
 from plants import PLANTS, Silenced
 from recording import ALL, DONE, MAP, READS, REMOVED, UNMAP, call, reply
 
@@ -165,6 +166,46 @@ def check_flushes_of_others() -> None:
     check_verdict("and the second isn't", twice + RELEASED.replace(" 9 1", " 8 1"), "segment 0/no 25 Reachable 5")
     found = converted(UNMAPPED + BEGUN + OTHERS)
     check("who flushed is said", "\tflushed by another task on processor 0\t" in found.calls().splitlines()[0], found.calls())
+
+
+def returned(number: int, length: int = 4096, third: int = 0, result: int = 0, fourth: int = 0) -> str:
+    """A call of another task that begins here and returns."""
+    words = f"{0x5000:x} {length:x} {third:x}"
+    return f"@entered 0 b0 {number} {words} {fourth:x}\n@returned 0 b0 {number} {words} {result:x} {fourth:x}\n"
+
+
+def check_returns_of_others() -> None:
+    """A call that says that nothing is left of a range says so of what others have taken away there, if they did before it began."""
+    stale, failed, moved = "segment 0/no 24 Stale 2", (1 << 64) - 12, 0x90000
+    for name, call, is_over in (("munmap", returned(MUNMAP), True), ("munmap that failed", returned(MUNMAP, result=failed), False),
+                                ("MADV_DONTNEED", returned(MADVISE, third=MADV_DONTNEED), True),
+                                ("another advice", returned(MADVISE, third=8), False),
+                                ("mprotect to nothing", returned(MPROTECT), True),
+                                ("mprotect that allows what was there", returned(MPROTECT, third=7), False),
+                                ("mprotect that allows less", returned(MPROTECT, third=1), True),
+                                ("mremap to elsewhere", returned(MREMAP, third=4096, result=moved, fourth=3), True),
+                                ("mremap that leaves the old place", returned(MREMAP, third=4096, result=moved, fourth=7), False),
+                                ("mremap in its place", returned(MREMAP, third=8192, result=0x5000, fourth=1), False),
+                                ("munmap of a part of it", returned(MUNMAP, 0), False)):
+        check_verdict(f"an access behind another task's {name}", UNMAPPED + call + SEEN, stale if is_over else "segments 1")
+    entered, left = returned(MUNMAP).splitlines(keepends=True)
+    check_verdict("of a call that had begun", entered + UNMAPPED + left + SEEN, stale)
+    again = f"@store 0 c0 1 {PC} 13 5 0 8067\n@store 0 c0 1 {PC} 13 5 8067 0\n"
+    seen = SEEN.replace("9000", "8000")
+    check_verdict("and of a page that was given since", UNMAPPED + FLUSHED + entered + again + left + seen, "segments 1")
+    check_verdict("before it returns", UNMAPPED + entered + SEEN + left, "segments 1")
+    found = converted(UNMAPPED + returned(MUNMAP))
+    check("who says so is said", "\tpromised by the return of another task's system call\t" in found.calls(), found.calls())
+
+
+def check_met() -> None:
+    """How much a yes says something about."""
+    summary = converted(UNMAPPED + SEEN + RELEASED + RELEASED.replace(" 9 1", " 8 1") + BEGUN + OTHERS).summary().splitlines()
+    check("accesses and releases of before a flush are counted", summary[1] == "met: 1 accesses between a store and its flush, "
+          "0 updates that another task's flush ended, 1 releases while something wasn't flushed", summary)
+    summary = converted(UNMAPPED + BEGUN + OTHERS + SEEN + RELEASED).summary().splitlines()
+    check("and flushes for another task", summary[1] == "met: 0 accesses between a store and its flush, "
+          "1 updates that another task's flush ended, 0 releases while something wasn't flushed", summary)
 
 
 def check_shown() -> None:

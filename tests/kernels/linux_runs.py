@@ -85,7 +85,7 @@ def check_modules() -> None:
     said = missing(machine.module_file, kernel, "driver_memory")
     check("headers that aren't there are named", "linux-headers-6.1.0-none" in said, said)
     check("a module is inserted first", machine.insert(["/a/b.ko.xz"]).startswith("$b insmod /bin/b.ko\n"))
-    check("one workload has a module of ours", [name for name, each in WORKLOADS.items() if each.module] == ["driver"]
+    check("one workload has a module of ours", [name for name, each in WORKLOADS.items() if each.modules] == ["driver"]
           and WORKLOADS["driver"].guest(1).modules == ("driver_memory",))
     check("others have options and mappings as they say", WORKLOADS["kvm"].guest(1).options == "" and WORKLOADS["maps"].guest(1).maps
           and "nohz_full" in WORKLOADS["kvm-log"].guest(1).options)

@@ -17,7 +17,7 @@ import many
 import results
 from counting import check
 from kernel_image import Kernel
-from many import Run
+from many import Run, Schedule
 from plants import PLANTS, Plant
 from programs import PROGRAMS
 
@@ -50,11 +50,11 @@ def check_printed() -> None:
     suite = xml.etree.ElementTree.fromstring(results.junit("planted", table.results_of(runs)).partition("\n")[2])
     cases = {case.get("name"): [each.get("message") for each in case] for case in suite}
     check("an XML file as JUnit's", suite.get("tests") == "5" and suite.get("failures") == "2" and cases
-          == {"found": [], "missed": ["`segments 3`"], "unseen": [], "ended": ["the guest ended & more"], "pair": []}, cases)
+          == {"found": [], "missed": ["`segments 3`, met 0/0/0"], "unseen": [], "ended": ["the guest ended & more"], "pair": []}, cases)
     row = table.rows(runs)[2]
     programs = table.rows_of_programs([Run("sqlite", PROGRAMS["sqlite"], ["segments 2"], [], "", collections.Counter(maps=1000, unmaps=2,
                                                                                                               accesses=3), 4.4)])
-    check("a row of a program", programs[2].endswith(" | 4 | 1,002 | 3 | `segments 2` |"), programs[2])
+    check("a row of a program", programs[2].endswith(" | 4 | 1,002 | 3 | `segments 2`, met 0/0/0 |"), programs[2])
     check("a row of the table", row == "| `found` | a <bug> | `segment 1; no 24 Stale 5` | first < second | 1 | 2 |", row)
 
 
@@ -80,7 +80,7 @@ def check_parted() -> None:
     lines = [line.replace("\n", " 0\n") if line.startswith("@born") else line for log in logs for line in [marked, *log]]
     runs = [Run("first", PLANTS["no-ipi"]), Run("second", PLANTS["no-ipi"])]
     with tempfile.TemporaryDirectory() as folder, mock.patch.object(machine, "OUT", folder):
-        boot = many.Boot("many", Kernel("6", "", [], [(1 << 63, "first")], None), runs, 1)
+        boot = many.Boot("many", Kernel("6", "", [], [(1 << 63, "first")], None), runs, Schedule(1))
         boot.take(lines)
     check("runs of one log are judged one by one", [each.is_found() for each in runs] == [True, False]
           and [len(each.verdicts) for each in runs] == [1, 1], [each.verdicts for each in runs])
@@ -92,7 +92,8 @@ def check_run_again() -> None:
     """A bug that nobody met is run again with other seeds, some times at most; one that was found isn't."""
     asked: list[tuple[list[str], int]] = []
 
-    def recorded(_: Kernel, runs: list[Run], seed: int) -> None:
+    def recorded(_: Kernel, runs: list[Run], schedule: Schedule) -> None:
+        seed = schedule.seed
         asked.append(([each.name for each in runs], seed))
         for each in runs:
             is_met = each.name == "first" or each.name == "second" and seed == 8
@@ -100,7 +101,7 @@ def check_run_again() -> None:
 
     runs = [Run(name, PLANTS["no-ipi"]) for name in ("first", "second", "third")] + [Run("split", PLANTS["split"])]
     with mock.patch.object(many, "record_once", recorded):
-        many.record(Kernel("6", "", [], [], None), runs, 7)
+        many.record(Kernel("6", "", [], [], None), runs, Schedule(7))
     check("bugs that nobody met are run again", asked == [(["first", "second", "third", "split"], 7), (["second", "third"], 8)]
           + [(["third"], 7 + tries) for tries in range(2, many.TRIES)], asked)
     check("and keep what came of the last run", [(each.name, each.tries, each.is_found()) for each in runs]

@@ -3,6 +3,7 @@
 
 #include "driver.h"
 #include "given.h"
+#include "history.h"
 
 #include <errno.h>
 #include <fcntl.h>
@@ -81,7 +82,7 @@ void catch_faults(void)
 	sigaction(SIGBUS, &action, NULL);
 }
 
-static int faults(volatile char *at, int is_store)
+int faults(volatile char *at, int is_store)
 {
 	if (sigsetjmp(back, 1)) {
 		is_trying = 0;
@@ -96,7 +97,7 @@ static int faults(volatile char *at, int is_store)
 	return 0;
 }
 
-static void has_to_fault(volatile char *at, int is_store, const char *what)
+void has_to_fault(volatile char *at, int is_store, const char *what)
 {
 	if (faults(at, is_store))
 		return;
@@ -477,16 +478,22 @@ static const struct {
 	{ "moved", moved }, { "files", files }, { "merged", merged }, { "reclaimed", reclaimed }, { "emptied", emptied },
 	{ "kinds", kinds }, { "planted", planted }, { "given", give_pages }, { "lazy", give_lazily }, { "lazy-large", give_large_lazily },
 	{ "equal", give_equal_pages }, { "compacted", give_by_compaction }, { "driver", unmap_drivers_pages },
+	{ "driver-frees", let_driver_free_pages }, { "driver-frees-high", let_driver_free_high_pages },
+	{ "truncated", move_what_is_truncated }, { "truncated-tables", move_tables_of_what_is_truncated },
+	{ "collapsed", move_what_is_collapsed }, { "shared-tables", unmap_what_shares_a_table }, { "dropped-twice", drop_twice },
+	{ "soft-dirty", clear_soft_dirty }, { "read-by-others", reclaim_what_is_read }, { "reclaimed-by-another", protect_what_is_reclaimed },
 };
 
+/* Where two parts have one name, none of them runs. */
 void run_part(const char *name)
 {
-	for (size_t k = 0; k < sizeof parts / sizeof parts[0]; k++) {
-		if (strcmp(name, parts[k].name))
-			continue;
-		parts[k].run();
-		return;
-	}
-	printf("WRONG no part %s\n", name);
-	wrong++;
+	size_t count = 0, found = 0;
+
+	for (size_t k = 0; k < sizeof parts / sizeof parts[0]; k++)
+		if (!strcmp(name, parts[k].name))
+			found = k, count++;
+	if (count == 1)
+		parts[found].run();
+	else
+		wrong += printf("WRONG %zu parts %s\n", count, name) > 0;
 }

@@ -16,6 +16,10 @@ extern int wrong; /* how often the process saw something that shouldn't be */
 /* A fault that a part tries is counted by it; any other ends the process. */
 void catch_faults(void);
 
+/* Whether such an access faults; it is wrong where one doesn't that has to. */
+int faults(volatile char *at, int is_store);
+void has_to_fault(volatile char *at, int is_store, const char *what);
+
 void run_part(const char *name);
 
 char *map_at(uint64_t address, uint64_t bytes, int protection, int flags, int file);

@@ -1,6 +1,7 @@
 /*
  * A module for the guest's kernel: a driver that gives processes pages of its own, which aren't the kernel's to count (VM_PFNMAP). Its file is
- * /dev/nrvs_driver. An ioctl takes all pages back: the driver unmaps them from whoever maps them, and frees them.
+ * /dev/nrvs_driver, in which they are again and again. An ioctl takes them back: the driver unmaps them from whoever maps them, and frees
+ * them; with a number other than 0 it looks for maps from an offset on alone.
  */
 #include <linux/fs.h>
 #include <linux/miscdevice.h>
@@ -17,15 +18,14 @@ static DEFINE_MUTEX(lock); /* while it is held, no page is given or taken back *
 /* A page is given where a process accesses it: by then unmap_mapping_range finds the mapping. */
 static vm_fault_t give(struct vm_fault *fault)
 {
+	struct page **page = &pages[fault->pgoff % PAGES];
 	vm_fault_t done = VM_FAULT_SIGBUS;
 
-	if (fault->pgoff >= PAGES)
-		return done;
 	mutex_lock(&lock);
-	if (!pages[fault->pgoff])
-		pages[fault->pgoff] = alloc_page(GFP_HIGHUSER | __GFP_ZERO);
-	if (pages[fault->pgoff])
-		done = vmf_insert_pfn(fault->vma, fault->address, page_to_pfn(pages[fault->pgoff]));
+	if (!*page)
+		*page = alloc_page(GFP_HIGHUSER | __GFP_ZERO);
+	if (*page)
+		done = vmf_insert_pfn(fault->vma, fault->address, page_to_pfn(*page));
 	mutex_unlock(&lock);
 	return done;
 }
@@ -47,10 +47,10 @@ static int map(struct file *file, struct vm_area_struct *area)
 	return 0;
 }
 
-static long take_back(struct file *file, unsigned int what, unsigned long unused)
+static long take_back(struct file *file, unsigned int is_part, unsigned long offset)
 {
 	mutex_lock(&lock);
-	unmap_mapping_range(file->f_mapping, 0, 0, 1);
+	unmap_mapping_range(file->f_mapping, offset, is_part ? PAGES * PAGE_SIZE : 0, 1);
 	for (int k = 0; k < PAGES; k++) {
 		if (pages[k])
 			__free_page(pages[k]);

@@ -34,11 +34,11 @@ void flushes_stored(unsigned cpu)
 	latest[k].flush = guest_flush(cpu);
 }
 
-void flushes_begin(unsigned cpu, int is_of_all)
+void flushes_begin(unsigned cpu, uint64_t space, int is_of_all)
 {
 	say("@flushing %u %" PRIx64 " %d\n", cpu, guest_task(cpu), is_of_all);
 	if (owing_has(guest_task(cpu)))
-		rests_here();
+		rests_flushing(guest_loaded(cpu) == space);
 }
 
 static struct flush of_task(unsigned cpu)

@@ -8,7 +8,7 @@
 void flushes_stored(unsigned cpu);
 
 /* The processor's task begins a flush, of some address space: one that each processor makes which has the space, or that some make. */
-void flushes_begin(unsigned cpu, int is_of_all);
+void flushes_begin(unsigned cpu, uint64_t space, int is_of_all);
 
 /* Its flush is over; if it was one of this address space, a line says so. One of nested tables is of all that the processors have. */
 void flushes_end(unsigned cpu, uint64_t space);

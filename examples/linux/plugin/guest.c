@@ -1,10 +1,12 @@
 #include "guest.h"
 
+#include "rests.h"
+
 #include <stdio.h>
 #include <stdlib.h>
 #include <string.h>
 
-struct guest guest = { .levels = 4 };
+struct guest guest = { .levels = 4, .rest_at = REST_AT_STORE | REST_AT_FLUSH };
 
 static const uint8_t *memory;
 static uint64_t size;
@@ -33,8 +35,8 @@ static const struct {
 	{ "current", &guest.current }, { "flushing", &guest.flushing }, { "birth", &guest.birth }, { "pgd", &guest.pgd },
 	{ "entry", &guest.entry }, { "entry_end", &guest.entry_end }, { "text", &guest.text }, { "text_end", &guest.text_end },
 	{ "page_bytes", &guest.page_bytes }, { "page_flags", &guest.page_flags }, { "page_type", &guest.page_type },
-	{ "table_mask", &guest.table_mask }, { "table_kind", &guest.table_kind }, { "rest", &guest.rest }, { "nested", &guest.nested },
-	{ "nested_end", &guest.nested_end },
+	{ "table_mask", &guest.table_mask }, { "table_kind", &guest.table_kind }, { "rest", &guest.rest },
+	{ "rest_at", &guest.rest_at }, { "nested", &guest.nested }, { "nested_end", &guest.nested_end },
 };
 
 int guest_set(const char *name, const char *value)

@@ -9,7 +9,13 @@
 /* Offsets in struct pt_regs. */
 enum registers { FOURTH = 0x38, THIRD = 0x60, SECOND = 0x68, FIRST = 0x70, NUMBER = 0x78 };
 
-enum { MPROTECT = 10, MUNMAP = 11, PKEY_MPROTECT = 329 };
+/* Those whose return says something of pages that no store has changed. */
+static int promises(uint64_t number)
+{
+	enum { MPROTECT = 10, MUNMAP = 11, MREMAP = 25, MADVISE = 28, PKEY_MPROTECT = 329 };
+
+	return number == MPROTECT || number == MUNMAP || number == MREMAP || number == MADVISE || number == PKEY_MPROTECT;
+}
 
 /* Whether a system call may change what is mapped. */
 static int changes_mappings(uint64_t number)
@@ -40,5 +46,5 @@ int system_calls_returns(unsigned cpu, uint64_t at)
 		return 0;
 	say("@returned %u %" PRIx64 " %" PRIu64 " %" PRIx64 " %" PRIx64 " %" PRIx64 " %" PRIx64 " %" PRIx64 "\n", cpu, guest_task(cpu), number,
 		guest_word(at + FIRST), guest_word(at + SECOND), guest_word(at + THIRD), guest_word(at + RESULT), guest_word(at + FOURTH));
-	return number == MPROTECT || number == MUNMAP || number == PKEY_MPROTECT;
+	return promises(number);
 }

@@ -57,7 +57,6 @@ enum later_mark { MARK_LATER = 0x100, MARK_CHOSEN = 0x200 };
 
 #define HIGH_HALF(address) ((address) >> 63)
 #define PRESENT 1u
-#define WRITABLE 2u
 #define BIRTH_BYTES 512 /* of code behind the call of pgd_alloc: there its result is stored */
 #define STACK_BYTES 16384u
 
@@ -180,11 +179,10 @@ static void word_stored(unsigned cpu, uint64_t physical, uint64_t pc)
 	callers_tell(cpu);
 	say("@store %u %" PRIx64 " %d %" PRIx64 " %" PRIx64 " %" PRIx64 " %" PRIx64 " %" PRIx64 "\n", cpu, task, own, pc, change.frame,
 		change.index, change.old, change.new);
-	if (change.old & PRESENT) { /* what only appears needs no flush */
+	if (change.old & PRESENT) /* what only appears needs no flush */
 		owing_add(task, change.level > 1 ? NOWHERE : physical);
-		if (own && (!(change.new & PRESENT) || (change.old & ~change.new & WRITABLE)))
-			rests_here();
-	}
+	if (own)
+		rests_stored(&change);
 	if (ends_when_empty && change.frame == tables_root() && tables_is_empty())
 		end("empty");
 }
@@ -332,7 +330,7 @@ static void on_user_code(unsigned cpu, void *data)
 static void on_flushing(unsigned cpu, void *functions)
 {
 	if (state == WATCHING)
-		flushes_begin(processor_that_runs(cpu), functions == &flushers);
+		flushes_begin(processor_that_runs(cpu), space, functions == &flushers);
 }
 
 static void on_flushed(unsigned cpu, void *functions)

@@ -1,0 +1,125 @@
+"""Tests of bugs that Linux was shipped with (examples/linux/history.py), for tests/linux: the table, their code, and logs."""
+import collections
+import os
+import re
+from unittest import mock
+
+import convert
+import many
+from convert import Options
+from counting import check
+from debian import Missing
+from history import HISTORY, SOUND, Shipped, with_twins
+from kernel_image import Kernel
+from linux_releases import KEPT, Memory, call_of, judged
+from linux_table import loaded
+from many import Run, Schedule
+from plants import PLANTS, REST_PLACES, FlushedLate, Patched, joined, rest_at
+from workloads import planted
+
+# Logs that were kept: of a bug, and of the same process without it; what is said of each as a chain
+LOGS = (("CVE-2021-4002", "segment 0/no 24 Stale 938", "segments 1"), ("99baac21e458", "segment 0/no 24 Stale 1436", "segments 3"),
+        ("CVE-2022-39188", "segment 0/no 25 Reachable 1406", "segments 2"))
+SHOWN = ["call 5, thread 1: touch u r 0x5000, answered `allowed 0x9000`", "answered before it: call 4",
+         "  of task 1, at 0x1 first+0x5, called by s+0x6"]
+
+
+def missing(call, *arguments: object) -> str:
+    """What a call says is missing."""
+    try:
+        call(*arguments)
+    except Missing as why:
+        return str(why)
+    return "nothing"
+
+
+def check_rows() -> None:
+    """What each row says, and that no name is there twice."""
+    both = with_twins()
+    check("each bug comes behind its twin", list(both) == [name for each in HISTORY for name in (each + SOUND, each)])
+    check("a twin has the same process and no bug", all(not both[name + SOUND].code and not both[name + SOUND].is_seen
+                                                        and both[name + SOUND].parts == each.parts for name, each in HISTORY.items()))
+    check("all are rows of history", all(isinstance(each, Shipped) and 2010 < each.year < 2027 for each in HISTORY.values()))
+    check("no bug has a name of another", len(joined(PLANTS, both)) == len(PLANTS) + len(both))
+    said = missing(joined, PLANTS, {"mremap": PLANTS["mremap"]})
+    check("two bugs of one name are an error", said == "names of two bugs: mremap", said)
+    parts = open(f"{os.path.dirname(many.__file__)}/guest/parts.c").read()
+    names = re.findall(r'\{ "([a-z-]+)", \w+ \}', parts)
+    check("no two parts have one name", len(names) > 20 and len(set(names)) == len(names), names)
+    lacking = [part for each in joined(PLANTS, HISTORY).values() for part in each.parts.split() if part not in names]
+    check("each bug's parts are there", lacking == [], lacking)
+
+
+def check_rests() -> None:
+    every = ",".join(REST_PLACES)
+    check("places of rests", [rest_at(each) for each in ("", "flushes", every)] == ["", "flushes", every])
+    try:
+        rest_at("flushes,nowhere")
+        said = "nothing"
+    except ValueError as why:
+        said = str(why)
+    check("a place that isn't there is named", said == "there are stores, flushes, tables, others", said)
+    guest = planted(HISTORY["CVE-2018-18281"]).guest(1)
+    check("a row's rests are the guest's", (guest.rest, guest.rest_at) == (2, "flushes"), guest)
+
+
+def run(name: str, verdict: str, **others: object) -> Run:
+    events = collections.Counter({convert.BETWEEN: 7})
+    return Run(name, with_twins()[name], [verdict], SHOWN if "no" in verdict else [], "", events, 1.0, **others)
+
+
+def check_printed() -> None:
+    table = loaded("table")
+    lines = table.rows_of_history([run(f"912efa17e512{SOUND}", "segments 4"), run("912efa17e512", "segment 1; no 24 Stale 5")])
+    check("a row of history has the evidence, and what its twin met", lines[2].endswith(
+        "| `segment 1; no 24 Stale 5` | touch u r 0x5000, answered `allowed 0x9000`; first < s | `segments 4`, met 7/0/0 |"), lines)
+    check("and how the bug is put back", len(lines) == 7 and lines[6].startswith("| `912efa17e512` | ")
+          and " | 5.10.24-1 | " in lines[6], lines)
+
+
+def check_times() -> None:
+    """Each run so often; in how many it was found is counted, and the first with a fault stays."""
+    seeds: list[int] = []
+
+    def recorded(_: Kernel, runs: list[Run], schedule: Schedule) -> None:
+        seeds.append(schedule.seed)
+        for each in runs:
+            each.verdicts = [f"segment {schedule.seed}; no 24 Stale 1" if each.name == "no-ipi" and schedule.seed != 5 else "segments 3"]
+
+    runs = [Run(name, PLANTS[name]) for name in ("no-ipi", "mremap")]
+    with mock.patch.object(many, "record_once", recorded):
+        many.record(Kernel("6", "", [], [], None), runs, Schedule(5, 3))
+    check("runs are made so often", seeds == [5, 6, 7], seeds)
+    check("and counted", [(each.verdicts, each.found, each.times) for each in runs] == [(["segment 6; no 24 Stale 1"], 2, 3),
+                                                                                    (["segments 3"], 0, 3)])
+
+
+def check_code() -> None:
+    """Bytes that are replaced where they are once, and a flush behind a call."""
+    begin = 0xFFFFFFFF81000000
+    target, flush, place = begin + 0x2000, begin + 0x3000, begin + 0x4000
+    code = call_of(begin, target) + b"\x48\xc1\xeb\x0c" + bytes(8)
+    names = [(begin, "outer"), (begin + len(code), "behind"), (target, "moves"), (flush, "flush_tlb_mm_range"), (place, "unused"),
+             (place + 64, "end")]
+    kernel, memory = Kernel("6", "", [], names, None), Memory(begin, code)
+    Patched("outer", b"\xc1\xeb", b"\xc1\xfb").plant(kernel, memory)
+    check("bytes are replaced", memory.code[5:9] == b"\x48\xc1\xfb\x0c")
+    said = missing(Patched("outer", bytes(2), b"").plant, kernel, memory)
+    check("where they are more than once that is named", "outer of this kernel, 6, has 0000 5 times" in said, said)
+    memory = Memory(begin, code + bytes(place + 64 - begin - len(code)))
+    with mock.patch.object(Kernel, "offset", lambda *_: 0x10):
+        FlushedLate("outer", "moves", "unused").plant(kernel, memory)
+        said = missing(FlushedLate("outer", "flush_tlb_mm_range", "unused").plant, kernel, memory)
+    added = bytes(memory.code[place - begin:])
+    check("a call goes to the code that flushes behind it", memory.code[:5] == call_of(begin, place))
+    check("which calls both, one behind the other", added[4:9] == call_of(place + 4, target)
+          and added[31:36] == call_of(place + 31, flush) and added[36:39] == b"\x58\x5b\xc3"
+          and added[9:14] == b"\x50\x48\x8b\x7b\x10", added.hex())
+    check("a call that isn't there is named", "outer of this kernel, 6, doesn't call flush_tlb_mm_range" in said, said)
+
+
+def check_kept() -> None:
+    for name, verdict, sound in LOGS:
+        for log, expected in ((f"history-{name}", verdict), (f"history-{name}{SOUND}", sound)):
+            said = judged(convert.convert(convert.read_lines(f"{KEPT}/{log}.log.xz"), Options(chain=1000)).spell())
+            check(f"{log} is judged {expected}", said == (expected, expected), said)
