@@ -181,7 +181,7 @@ def is_code(name: str, begin: bytes) -> bool:
 
 def files_now() -> dict[str, str]:
     """The code as it is here."""
-    names = said_by("ls-files", "-co", "--exclude-standard").decode().splitlines()
+    names = said_by("ls-files").decode().splitlines()
     read = {name: (ROOT / name).read_bytes() for name in names if not DATA.search(name) and (ROOT / name).is_file()}
     return {name: data.decode() for name, data in read.items() if is_code(name, data[:2])}
 
