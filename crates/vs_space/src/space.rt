@@ -205,7 +205,12 @@ impl<S: FrameStore> Space<S> {
         self.root
     }
 
+    // What a call takes doesn't depend on the program around it: what each call does is compiled into its caller, and what few calls
+    // do never is. By its own choice a compiler inlines a call only where its store has one caller. Elsewhere it took half as many
+    // instructions again.
+
     /// The translation of a canonical address, or `NotMapped`.
+    #[inline(always)]
     pub fn resolve(&self, address: u64) -> Answer
         requires { IsCanonical self.now.depth address }
         ensures { (space : spaces.Space) → IsTableOf self.now space → result ≡ look space address }
@@ -250,6 +255,7 @@ impl<S: FrameStore> Space<S> {
     /// Does an operation that is well formed at the space's depth: the answer and the space after it are those of a step,
     /// under the store's capacity as the limit.
     /// It reads and writes at most one table a level, but for the first page below a table.
+    #[inline(always)]
     pub fn apply(&mut self, op: Op) -> Answer
         requires { IsAction self.old.depth op }
         ensures { IsTableStep self.old op result self.new }
@@ -262,6 +268,7 @@ impl<S: FrameStore> Space<S> {
     }
 
     /// The page's word is made before the descent: one number is kept meanwhile, and not its size, its address and three rights.
+    #[inline(always)]
     fn map(&mut self, page: Page) -> Answer
         requires { IsPage self.old.depth page }
         ensures { IsTableStep self.old (Action.Map page) result self.new }
@@ -279,6 +286,7 @@ impl<S: FrameStore> Space<S> {
     }
 
     /// The least base of a page that this one overlaps, where the descent for it met this entry, which isn't absent.
+    #[inline(always)]
     fn overlapped(&self, page: Page, level: u8, met: Meaning) -> u64
         requires page { IsPage self.now.depth page }
         requires some_level { 1 ≤ level }
@@ -324,6 +332,7 @@ impl<S: FrameStore> Space<S> {
         Answer::Done
     }
 
+    #[inline(always)]
     fn unmap(&mut self, base: u64) -> Answer
         requires { IsBase self.old.depth base }
         ensures { IsTableStep self.old (Action.Unmap base) result self.new }
@@ -366,6 +375,7 @@ impl<S: FrameStore> Space<S> {
     }
 
     /// The bits of the rights are found before the descent, as the word is in `map`.
+    #[inline(always)]
     fn protect(&mut self, base: u64, rights: Rights) -> Answer
         requires { IsBase self.old.depth base }
         ensures { IsTableStep self.old (Action.Protect base rights) result self.new }

@@ -110,6 +110,7 @@ impl<S: FrameStore> Tables<S> {
     }
 
     /// The word at an index of a frame in use.
+    #[inline(always)]
     pub(crate) fn word(&self, number: u64, index: usize) -> u64
         requires in_use { IsSome (finite.get self.now.memory number) }
         requires in_frame { index < FRAME_WORDS }
@@ -119,6 +120,7 @@ impl<S: FrameStore> Tables<S> {
     }
 
     /// Writes a word that isn't 0 over another one, at an index of a frame in use.
+    #[inline(always)]
     pub(crate) fn write(&mut self, number: u64, index: usize, word: u64)
         requires in_use { IsSome (finite.get self.old.memory number) }
         requires in_frame { index < FRAME_WORDS }
@@ -133,6 +135,7 @@ impl<S: FrameStore> Tables<S> {
     }
 
     /// Writes a word that isn't 0 over 0, at an index of a frame in use.
+    #[inline(always)]
     pub(crate) fn fill(&mut self, number: u64, index: usize, word: u64)
         requires in_use { IsSome (finite.get self.old.memory number) }
         requires in_frame { index < FRAME_WORDS }
@@ -150,6 +153,7 @@ impl<S: FrameStore> Tables<S> {
     }
 
     /// Writes 0 over another word, at an index of a frame in use.
+    #[inline(always)]
     pub(crate) fn clear(&mut self, number: u64, index: usize)
         requires in_use { IsSome (finite.get self.old.memory number) }
         requires in_frame { index < FRAME_WORDS }
@@ -165,6 +169,7 @@ impl<S: FrameStore> Tables<S> {
     }
 
     /// The number of a frame that wasn't in use, now in use and all zero, or `None` where all are in use.
+    #[inline(never)]
     pub(crate) fn take(&mut self) -> Option<u64>
         ensures was_free { IfSome result (λ n. finite.get self.old.memory n ≡ None) }
         ensures taken { IfSome result
@@ -179,6 +184,7 @@ impl<S: FrameStore> Tables<S> {
     }
 
     /// Gives a frame back whose words are all 0.
+    #[inline(always)]
     pub(crate) fn give(&mut self, number: u64)
         requires { finite.get self.old.memory number ≡ Some zeros }
         ensures removed { self.new
@@ -321,6 +327,7 @@ impl<S: FrameStore> Tables<S> {
 
     /// Links new tables on the path of an address below its last table, which has this frame number and level, down to
     /// the lowest level. Answers the last one's number.
+    #[inline(always)]
     pub(crate) fn extend(&mut self, address: u64, last: u64, from: u8, lowest: u8) -> u64
         requires in_use { IsSome (finite.get self.old.memory last) }
         requires absent { word_at self.old.memory last (index_at from address) ≡ Some 0 }
@@ -347,6 +354,7 @@ impl<S: FrameStore> Tables<S> {
     }
 
     /// The base of the first page below a table of this level, which begins at the address.
+    #[inline(never)]
     pub(crate) fn least_base(&self, address: u64, table: u64, from: u8) -> u64
         requires { (depth : Depth) × (root : ℕ)
             × IsBelowRoot depth self.now.memory root address from table }
