@@ -16,4 +16,5 @@ pub mod Refusals
 pub mod Moves
 pub mod Makes
 pub mod Tests
+pub mod MovesTests
 pub mod Example

@@ -28,16 +28,16 @@ below_true x y e = grind (arith, nat_tests, e)
 pub at_most_true : (x y : ℕ) → nat_le x y ≡ true → x ≤ y
 at_most_true x y e = grind (arith, nat_tests, e)
 
-abbrev yes : Test ⊤
+abbrev pub yes : Test ⊤
 yes = record { value = true; sound = λ e. tt }
 
-abbrev never : {Fact : Type 0} → Test Fact
+abbrev pub never : {Fact : Type 0} → Test Fact
 never {Fact} = record { value = false; sound = none_true }
 
-abbrev same : (x y : ℕ) → Test (x ≡ y)
+abbrev pub same : (x y : ℕ) → Test (x ≡ y)
 same x y = record { value = x == y; sound = same_true x y }
 
-abbrev below : (x y : ℕ) → Test (x < y)
+abbrev pub below : (x y : ℕ) → Test (x < y)
 below x y = record { value = nat_lt x y; sound = below_true x y }
 
 abbrev at_most : (x y : ℕ) → Test (x ≤ y)
@@ -66,19 +66,19 @@ pub second_true : (a b : Bool) → (a && b) ≡ true → b ≡ true
 second_true true b e = e
 second_true false b e = absurd (cc)
 
-abbrev both : {P Q : Type 0} → Test P → Test Q → Test (P × Q)
+abbrev pub both : {P Q : Type 0} → Test P → Test Q → Test (P × Q)
 both {P} {Q} one two = record {
   value = one.value && two.value;
   sound = λ e. (one.sound (first_true one.value two.value e), two.sound (second_true one.value two.value e));
 }
 
-abbrev fits : {P Q : Type 0} → (P → Q) → Test P → Test Q
+abbrev pub fits : {P Q : Type 0} → (P → Q) → Test P → Test Q
 fits {P} {Q} then test = record { value = test.value; sound = λ e. then (test.sound e) }
 
-abbrev three : {P Q R : Type 0} → Test P → Test Q → Test R → Test (P × Q × R)
+abbrev pub three : {P Q R : Type 0} → Test P → Test Q → Test R → Test (P × Q × R)
 three {P} {Q} {R} a b c = fits (λ p. (p.0, p.1.0, p.1.1)) (both a (both b c))
 
-abbrev four : {P Q R S : Type 0} → Test P → Test Q → Test R → Test S → Test (P × Q × R × S)
+abbrev pub four : {P Q R S : Type 0} → Test P → Test Q → Test R → Test S → Test (P × Q × R × S)
 four {P} {Q} {R} {S} a b c d = fits (λ p. (p.0, p.1.0, p.1.1, p.1.2)) (both a (three b c d))
 
 abbrev five : {P Q R S T : Type 0} → Test P → Test Q → Test R → Test S → Test T → Test (P × Q × R × S × T)
@@ -112,7 +112,7 @@ may_append nodes n a old new =
     (four (same a.seconds (length a.batch)) (same a.applied a.taken) (same old (packed a.seen a.last))
     (same new (packed (a.seen + length a.batch) n))))
 
-abbrev may_do : (nodes n : ℕ) (a : Actor) (operation : Operation) → Test (MayDo nodes n a operation)
+abbrev pub may_do : (nodes n : ℕ) (a : Actor) (operation : Operation) → Test (MayDo nodes n a operation)
 may_do nodes n a (Load Head) = same a.applied a.taken
 may_do nodes n a (Load Completed) = yes
 may_do nodes n a (Load (Local r)) = both (below r nodes) (at_most r a.asked)
@@ -128,6 +128,13 @@ may_do nodes n a (Exchange Head old new) = may_append nodes n a old new
 may_do nodes n a (Max Completed value) = at_most value a.taken
 may_do nodes n a operation = never
 
+abbrev pub may_begin : (a : Actor) (batch : List Update) → Test (MayBegin a batch)
+may_begin a batch = three (empty a.batch) (at_most 1 (length batch)) (at_most (length batch) 16)
+
+abbrev pub may_apply : (a : Actor) → Test (MayApply a)
+may_apply a = fits (λ p. record { taken = p.0; next = p.1; some = p.2 })
+    (three (same a.taken a.seen) (same a.from a.applied) (below 0 (length a.got)))
+
 abbrev may_end : (standing : Option ℕ) (count applied published : ℕ) → Test (MayEndAt standing count applied published)
 may_end None count applied published = same count 0
 may_end (Some first) count applied published = both (at_most (first + count) applied) (at_most (first + count) published)
@@ -135,11 +142,9 @@ may_end (Some first) count applied published = both (at_most (first + count) app
 -- ---- schedules
 
 abbrev act_may : (nodes : ℕ) (w : World) (act : Act) → Test (MayAct nodes w act)
-act_may nodes w (Begins n batch) =
-    both (below n nodes) (three (empty (w.actor n).batch) (at_most 1 (length batch)) (at_most (length batch) 16))
+act_may nodes w (Begins n batch) = both (below n nodes) (may_begin (w.actor n) batch)
 act_may nodes w (Does n operation) = both (below n nodes) (may_do nodes n (w.actor n) operation)
-act_may nodes w (Applies n) = both (below n nodes) (fits (λ p. record { taken = p.0; next = p.1; some = p.2 })
-    (three (same (w.actor n).taken (w.actor n).seen) (same (w.actor n).from (w.actor n).applied) (below 0 (length (w.actor n).got))))
+act_may nodes w (Applies n) = both (below n nodes) (may_apply (w.actor n))
 act_may nodes w (Ends n) =
     both (below n nodes) (may_end (w.actor n).standing (length (w.actor n).batch) (w.actor n).applied (w.actor n).published)
 act_may nodes w (ReadBegins n) = below n nodes

@@ -9,4 +9,5 @@ pub mod Machine
 pub mod Sound
 pub mod Bound
 pub mod Calls
+pub mod LagExamples
 pub mod inside

@@ -6,9 +6,12 @@ ghost use Rattle.nr_machine.specs.World.Act.{Does};
 ghost use Rattle.nr_machine.specs.Words.{told_by};
 ghost use Rattle.nr_machine.specs.Bound.{Spends, left, price, total};
 ghost use Rattle.nr_machine.specs.Calls.{IsNew, MayMoveAll, Move, at_start, moved_all, schedule_of, worker_of};
-ghost use Rattle.nr_machine.specs.Machine.{IsFit};
+ghost use Rattle.nr_machine.specs.LagExamples.{lagging, new_machine, until_one_lags};
+ghost use Rattle.nr_machine.specs.Machine.{IsFit, asked_by};
+ghost use Rattle.nr_machine.specs.declared.asked.Asked.{Asked};
 ghost use Rattle.nr_machine.specs.declared.node.Node.{Node};
 ghost use Rattle.nr_machine.specs.declared.words.Operation.{Operation};
+ghost use Rattle.nr_machine.specs.declared.words.Word.{Word};
 ghost use Rattle.nr_machine.specs.Laws.{AllApplied, AreWritten, Everywhere, KeepsPrecedence, StandInOrder};
 ghost use Rattle.nr_machine.specs.States.{AllRight, Kind, Nodes, StatesFollow, at_first, ends_among, ends_of, run};
 ghost use Rattle.nr_machine.specs.Examples.{example, its_events};
@@ -114,4 +117,15 @@ pub fn calls_can_end()
     ensures plays { Plays 2 (opening 2) example }
     ensures events { (played (opening 2) example).events ≡ its_events }
     ensures flushed { Everywhere 2 (played (opening 2) example) 2 }
+{}
+
+/// What is asked of callers can also be met where a node lags. An update is appended at node 1 and not taken there, so that node 0, which
+/// has 16 updates to append, learns that node 1 lags. Once node 1 has taken its entry, node 0 stores the words of its updates.
+pub fn calls_can_wait()
+    ensures new { (n : ℕ) → n < 2 → IsNew 2 n (new_machine n) }
+    ensures may { MayMoveAll 2 (at_start 2 new_machine) lagging }
+    ensures lags { asked_by ((moved_all (at_start 2 new_machine) until_one_lags).machine 0)
+        ≡ Asked.Lags 1 }
+    ensures stores { asked_by ((moved_all (at_start 2 new_machine) lagging).machine 0)
+        ≡ Asked.Carry (Operation.Store (Word.First 0 1) 1) }
 {}
