@@ -12,8 +12,7 @@ use Rattle.nr_trace.specs.Laws.{HasCleanLog}
 use Rattle.nr_trace.specs.Orders.{space_from}
 use Rattle.nr_joined.specs.Run.{Run, end_of, run_with, IsOrderly}
 use Rattle.nr_joined.proofs.Orderly.{clean_is_orderly, space_of_both}
-use Rattle.nr_touch.specs.Tails.{GoesOn, IsLeft, IsSoundTail, IsTailOf, IsTailOfRun}
-use Rattle.nr_touch.specs.inside.Indexed.{HasPages}
+use Rattle.nr_touch.specs.Tails.{GoesOn, HasIndexes, IsLeft, IsSoundTail, IsTailOf, IsTailOfRun}
 use Rattle.nr_touch.specs.declared.touches.tail.Left.{Left}
 use Rattle.nr_touch.specs.declared.touches.tail.Tail.{Tail}
 use Rattle.nr_touch.proofs.cuts.NoProtects.{each_ends, HasNoProtect}
@@ -112,7 +111,7 @@ left_empty run start segment tail of_tail goes_on orderly in_range empty =
       each = λ c has. absurd (not_in_nil c has);
       all = λ place address less. absurd (let none = ap length empty in omega (arith, less, none));
     }) (λ i j d low less. absurd (omega (arith, less))) (let most = in_range.few_events in omega (arith, most)) run tail tail
-    (subst (λ (calls : List ℕ). IfSome tail.index (λ i. HasPages i (space_from start segment calls))) (sym empty)
+    (subst (λ (calls : List ℕ). HasIndexes tail (space_from start segment calls)) (sym empty)
     (index_of_tail run start segment tail goes_on of_tail)) of_tail goes_on
     (λ address page. subst (λ (changes : List Left). IsLeft tail.changes.items address page ↔ IsLeft changes address page)
     (sym (append-nil tail.changes.items)) ((λ it. it), λ it. it))

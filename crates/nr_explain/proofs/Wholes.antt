@@ -16,8 +16,7 @@ use Rattle.nr_trace.specs.declared.fault.Fault.{Fault}
 use Rattle.nr_joined.specs.Run.{end_of, IsOrderly}
 use Rattle.nr_joined.proofs.Orderly.{space_of_both}
 use Rattle.nr_touch.specs.Beside.{beside}
-use Rattle.nr_touch.specs.Tails.{AreSound, GoesOn}
-use Rattle.nr_touch.specs.inside.Indexed.{HasPages}
+use Rattle.nr_touch.specs.Tails.{AreSound, GoesOn, HasIndexes}
 use Rattle.nr_audit.specs.Verdict.{space_of}
 use Rattle.nr_audit.specs.Faults.{IsFirstAfter, IsSoundAfter}
 use Rattle.nr_audit.specs.Start.{first_space, BeginsRight}
@@ -150,13 +149,13 @@ module _ (last : Option Progress) (segment : Recording) (before : Option Past) (
       let space = (kept known.0 (behind known.0 known.1)).space ∙ end_after known.0 known.1 in
       λ i. record { depth = fits.space.depth i; limit = fits.space.limit i; space = space i }
 
-  -- the index of what the judge leaves has the pages after the segment
+  -- the indexes of what the judge leaves have the pages after the segment
   pub index_behind : (past : Past) → IsKnown last
       → ((came : Option ChainState) → IsBehind (run_in came) before segment → IsKept (run_after (run_in came) segment) past)
-      → IfSome past.tail.index (λ index. HasPages index past.space.space)
+      → HasIndexes past.tail past.space.space
   index_behind past known kept =
       let is = kept known.0 (behind known.0 known.1) in
-      subst (λ (s : Space). IfSome past.tail.index (λ index. HasPages index s)) (sym is.space) is.tail.index
+      subst (HasIndexes past.tail) (sym is.space) is.tail.index
 
   -- what is kept with the segment
   pub seen_next : (came : Option ChainState) (next : Progress) (past : Past) (size : ℕ) → IsSeenOf came (all_states last)

@@ -19,7 +19,7 @@ use Rattle.std.proofs.lemmas.Map.Views.{btree_set_contains_iff, range_contains-f
 use Rattle.vs_types.specs.declared.page.Page.{Page}
 use Rattle.vs_types.specs.declared.page.Size.TheVariants.{K4, M2, G1}
 use Rattle.nr_touch.specs.inside.Blocks.{blocks_at, IsBlockOf}
-use Rattle.nr_touch.specs.inside.Indexed.{row_cmp, IsIndexed}
+use Rattle.nr_touch.specs.inside.Indexed.{row_cmp, IsIndexedAs}
 use Rattle.nr_touch.specs.declared.releases.index.Index.{Index}
 use Rattle.vs_types.proofs.Lists.{Contains-cases, Contains-head, Contains-tail, not_in_nil}
 
@@ -93,10 +93,10 @@ block_within page block (inl (M2, is)) = (1, omega arith, sym is)
 block_within page block (inl (G1, is)) = (2, omega arith, sym is)
 block_within page block (inr is) = (3, omega arith, sym is)
 
-pub page_rows : (index : Index) (page : Page) → ((k : ℕ) → k < 4 → IsTrue (contains row_cmp index.rows (get_or (blocks_at page) k 0, page.base)))
-    → IsIndexed index page
-page_rows index page each block of =
-    let (k, l, is) = block_within page block of in subst (λ (b : ℕ). IsTrue (contains row_cmp index.rows (b, page.base))) is (each k l)
+pub page_rows : (index : Index) (page : Page) (key : ℕ)
+    → ((k : ℕ) → k < 4 → IsTrue (contains row_cmp index.rows (get_or (blocks_at page) k 0, key))) → IsIndexedAs index page key
+page_rows index page key each block of =
+    let (k, l, is) = block_within page block of in subst (λ (b : ℕ). IsTrue (contains row_cmp index.rows (b, key))) is (each k l)
 
 -- ---- the rows of a block
 
@@ -132,11 +132,11 @@ no_greater_by Greater a b m l = absurd (omega (arith, m, l))
 pub no_greater : (a b : ℕ) → a ≤ b → is_gt (nat_cmp a b) ≡ false
 no_greater a b l = no_greater_by (nat_cmp a b) a b (ranked a b (nat_cmp a b) refl) l
 
--- a row is found between the least row of its block and the greatest
-pub row_found : (rows : BTreeSet (ℕ × ℕ)) (found : List (ℕ × ℕ)) (least greatest : ℕ × ℕ) (block base end : ℕ) → least ≡ (block, 0) → greatest ≡ (block, end)
-    → found ≡ keys_between row_cmp (Included least) (Included greatest) rows → base ≤ end → IsTrue (contains row_cmp rows (block, base))
-    → Contains found (block, base)
-row_found rows found least greatest block base end low high is fits has =
+-- a row is found between a row of its block from which it comes on, and the greatest
+pub row_found : (rows : BTreeSet (ℕ × ℕ)) (found : List (ℕ × ℕ)) (least greatest : ℕ × ℕ) (block first base end : ℕ) → least ≡ (block, first)
+    → greatest ≡ (block, end) → found ≡ keys_between row_cmp (Included least) (Included greatest) rows → first ≤ base → base ≤ end
+    → IsTrue (contains row_cmp rows (block, base)) → Contains found (block, base)
+row_found rows found least greatest block first base end low high is from fits has =
     key_found row_order exact_rows rows found least greatest (block, base) is
-    (subst (λ (row : ℕ × ℕ). is_gt (row_cmp row (block, base)) ≡ false) (sym low) (at_most block 0 base (omega arith)))
+    (subst (λ (row : ℕ × ℕ). is_gt (row_cmp row (block, base)) ≡ false) (sym low) (at_most block first base from))
     (subst (λ (row : ℕ × ℕ). is_gt (row_cmp (block, base) row) ≡ false) (sym high) (at_most block base end fits)) has

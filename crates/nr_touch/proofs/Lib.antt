@@ -8,6 +8,7 @@ pub mod IndexRows
 pub mod IndexedPages
 pub mod Lagging
 pub mod Lefts
+pub mod ListedPages
 pub mod LivesFound
 pub mod Looked
 pub mod NextChanges

@@ -12,11 +12,12 @@ use Rattle.nr_touch.specs.Touches.{IsAnsweredBefore}
 use Rattle.nr_touch.specs.inside.Blocks.{IsBlockOf}
 use Rattle.nr_touch.specs.inside.Changes.{AreChanges}
 use Rattle.nr_touch.specs.inside.Lives.{HaveRows}
-use Rattle.nr_touch.specs.inside.Overs.{AreOver, IsAgain, IsOver, IsSettled}
+use Rattle.nr_touch.specs.inside.Overs.{AddsNote, AreKnown, AreOver, IsAgain, IsOver, IsSettled}
 use Rattle.nr_touch.specs.inside.Reached.{FindsAt, LeadsBy, LeadsSo}
 use Rattle.nr_touch.specs.inside.Stays.{AreStretches}
 use Rattle.nr_touch.specs.declared.changes.change.PlacedChange.{PlacedChange}
 use Rattle.nr_touch.specs.declared.releases.changed.Changed.{Changed}
+use Rattle.nr_touch.specs.declared.releases.overs.Overs.{Overs}
 use Rattle.nr_touch.specs.declared.releases.release.Release.{Release}
 use Rattle.nr_touch.specs.declared.releases.stays.Stay.{Stay}
 use Rattle.nr_touch.proofs.ChangedRows.{NoneLeadsFrom}
@@ -30,7 +31,7 @@ again_and_again one other last first then =
 at_once : (release : Release) → IsAgain release release
 at_once release = record { size = refl; phys = refl; made = omega arith }
 
-answered_later : (segment : Recording) (place event later : ℕ) → event ≤ later → IsAnsweredBefore segment place event → IsAnsweredBefore segment place later
+pub answered_later : (segment : Recording) (place event later : ℕ) → event ≤ later → IsAnsweredBefore segment place event → IsAnsweredBefore segment place later
 answered_later segment place event later up (call, at, (reply, less, answers)) = (call, at, (reply, omega (arith, up, less), answers))
 
 -- ---- a stay that leads nowhere now
@@ -150,3 +151,15 @@ module _ (start : Space) (segment : Recording) (earlier : List PlacedChange) (ch
           | inr behind ↦ none k stay behind less own from here last leads.0
         ]
       ]
+
+-- what is known with one note more
+pub known_more : (start : Space) (segment : Recording) (earlier : List PlacedChange) (changed : Changed) (old new : Overs) (release : Release) (block rows : ℕ)
+    → AddsNote old release block rows new → AreKnown start segment earlier changed old → AreOver start segment earlier changed release block 0 rows
+    → AreKnown start segment earlier changed new
+known_more start segment earlier changed old new release block rows adds known now key over at = elim (adds key over at) [
+  | inl was ↦ known key over was
+  | inr (of_release, of_block, many) ↦
+      subst (λ (r : Release). AreOver start segment earlier changed r over.block 0 over.rows) (sym of_release)
+      (subst (λ (b : ℕ). AreOver start segment earlier changed release b 0 over.rows) (sym of_block)
+      (subst (λ (n : ℕ). AreOver start segment earlier changed release block 0 n) (sym many) now))
+]

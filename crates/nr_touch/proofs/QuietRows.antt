@@ -1,16 +1,16 @@
 -- A release beside the pages that the rows of an index name.
-use Rattle.std.proofs.Common.{◌≡◌, ℕ, ◌+◌, ◌*◌, Bool, false, List, length, Option, Some, IsTrue, sym, ◌∙◌, subst}
+use Rattle.std.proofs.Common.{◌≡◌, ℕ, ◌+◌, ◌*◌, ◌%◌, ◌<◌, Bool, false, List, length, slice_get, Option, Some, IsTrue, sym, ◌∙◌, subst}
 use Rattle.std.proofs.Common.{arith}
 use Rattle.std.proofs.lemmas.Bool.{false≢true}
 use Rattle.std.proofs.lemmas.Option.{same_Some}
-use Rattle.vs_types.specs.Space.{Space, Holds, IsSpace}
-use Rattle.vs_types.specs.declared.depth.Depth.{Depth}
+use Rattle.vs_types.specs.Page.{bytes_of}
+use Rattle.vs_types.specs.Space.{Space, Holds}
 use Rattle.vs_types.specs.declared.page.Page.{Page}
 use Rattle.nr_trace.specs.Orders.{space_from}
 use Rattle.nr_trace.specs.Recording.{IsMemory, Recording}
 use Rattle.nr_joined.specs.Run.{Run}
+use Rattle.nr_touch.specs.Releases.{HasPhys}
 use Rattle.nr_touch.specs.inside.Levels.{left_in}
-use Rattle.nr_touch.specs.declared.changes.change.PlacedChange.{PlacedChange}
 use Rattle.nr_touch.specs.declared.changes.history.History.{History}
 use Rattle.nr_touch.specs.declared.releases.release.Release.{Release}
 use Rattle.nr_touch.specs.inside.Blocks.{IsBlockFor, IsBlockOf}
@@ -19,6 +19,12 @@ use Rattle.nr_touch.specs.inside.Reached.{LeadsSo}
 use Rattle.nr_touch.proofs.Blocks.{shares_block}
 
 module _ (history : History) (earlier : List History) (space : Space) (places : ℕ) (release : Release) where
+  -- no access that begins with the release could reach its memory through the page of this number
+  abbrev pub NoneAt : List Page → ℕ → Type 0
+  NoneAt pages number = (run : Option Run) (start : Space) (segment : Recording) (page : Page) → IsFollowed run start segment history earlier
+      → space ≡ space_from start segment segment.log → places ≡ length segment.log → slice_get pages number ≡ Some page
+      → LeadsSo start segment (left_in earlier) release page → ⊥
+
   -- no access that begins with the release could reach its memory through a page that begins at the base
   abbrev pub NoneFrom : ℕ → Type 0
   NoneFrom base = (before : Option Run) (start : Space) (segment : Recording) (page : Page) → IsFollowed before start segment history earlier
@@ -38,10 +44,7 @@ module _ (history : History) (earlier : List History) (space : Space) (places : 
         false≢true (sym not ∙ says before start segment followed are many (subst (LeadsSo start segment (left_in earlier) release) same there))
 
 -- a page that leads into the memory of a release leads into a block that the release is about
-pub block_met : {depth : Depth} {space : Space} → IsSpace depth space → (start : Space) (segment : Recording) (earlier : List PlacedChange)
-    (release : Release) (page : Page) → IsMemory release.size release.phys → Holds space page → LeadsSo start segment earlier release page
-    → (block : ℕ) × IsBlockOf page block × IsBlockFor release block
-block_met is start segment earlier release page memory holds leads =
-    let good = is.well_formed page holds in
-    let within = leads.within in
-    shares_block page release (page.phys + leads.frame * 4096) good.phys_aligned memory.0 (omega arith) (omega (arith, within)) leads.has
+pub block_met : (release : Release) (page : Page) (frame : ℕ) → IsMemory release.size release.phys → page.phys % bytes_of page.size ≡ 0
+    → frame * 4096 < bytes_of page.size → HasPhys release (page.phys + frame * 4096) → (block : ℕ) × IsBlockOf page block × IsBlockFor release block
+block_met release page frame memory aligned within has =
+    shares_block page release (page.phys + frame * 4096) aligned memory.0 (omega arith) (omega (arith, within)) has

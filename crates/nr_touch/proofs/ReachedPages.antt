@@ -28,7 +28,8 @@ use Rattle.nr_touch.specs.inside.Changes.{number_of, page_before, taken_at, AreC
 use Rattle.nr_touch.specs.inside.Columns.{Covers, IsNumbered, IsOf}
 use Rattle.nr_touch.specs.inside.Alike.{AreAlike}
 use Rattle.nr_touch.specs.inside.Earlier.{AreOfRun, EndsNowhere, IsLeftAt}
-use Rattle.nr_touch.specs.inside.Reached.{probe_at, seen_before, seen_left, seen_now, AreSeen, IsAlive, FindsAt, IsMetAt, IsRoomy, IsSamePlace, LeadsBelow, LeadsSo, LeadsThere}
+use Rattle.nr_touch.specs.inside.Reached.{probe_at, seen_before, seen_left, seen_now, AreSeen, IsAlive, FindsAt, IsMetAt, IsOpen, IsOpenThere, IsRoomy, IsSamePlace, LeadsBelow, LeadsSo, LeadsThere}
+use Rattle.nr_touch.specs.declared.changes.change.Change.{Change}
 use Rattle.nr_touch.specs.declared.changes.change.PlacedChange.{PlacedChange}
 use Rattle.nr_touch.specs.declared.releases.release.Release.{Release}
 use Rattle.nr_touch.specs.declared.releases.seen.Seen.{Seen}
@@ -53,10 +54,10 @@ found_page phys a mode access (Some own) e = by (allows own.rights mode access) 
 probed : (a : ℕ) (page : Page) → Allowed (page.phys + (a - page.base)) ≡ allow_in_page a Supervisor Read (Some page)
 probed a page = refl
 
-was_there : (c : PlacedChange) (page : Page) → page_before c.change ≡ Some page → (c.change.was_mapped ≡ true) × (c.change.page ≡ page)
-was_there c page e = by c.change.was_mapped e where
-  by : (b : Bool) → cond b (Some c.change.page) None ≡ Some page → (b ≡ true) × (c.change.page ≡ page)
-  by true e = (refl, same_Some c.change.page page e)
+pub was_there : (change : Change) (page : Page) → page_before change ≡ Some page → (change.was_mapped ≡ true) × (change.page ≡ page)
+was_there change page e = by change.was_mapped e where
+  by : (b : Bool) → cond b (Some change.page) None ≡ Some page → (b ≡ true) × (change.page ≡ page)
+  by true e = (refl, same_Some change.page page e)
   by false e = absurd (cc)
 
 -- ---- the changes of a segment
@@ -97,6 +98,36 @@ record FoundPage (own : List PlacedChange) (seen : List Seen) (event a : ℕ) (p
   pub covered : IsTrue (covers page a)
   pub alive : IsAlive own s event
   pub from : n ≤ s.place
+
+-- a frame of a page with room was left to look so, and is so at a release that has it
+abbrev pub ReachedOpen : Space → Recording → List PlacedChange → Release → Type 0
+ReachedOpen start segment earlier release = (page : Page) × (frame : ℕ) × IsRoomy page × IsOpenThere start segment earlier release page frame
+
+-- the frame of an address of a page, which a release has
+record InPage (release : Release) (page : Page) (a : ℕ) : Type 0 where
+  pub frame : ℕ
+  pub low : page.base + frame * 4096 ≤ a
+  pub same : a / 4096 ≡ (page.base + frame * 4096) / 4096
+  pub within : frame * 4096 < bytes_of page.size
+  pub has : HasPhys release (page.phys + frame * 4096)
+
+frame_in : (release : Release) (page : Page) (a phys : ℕ) → release.phys % bytes_of release.size ≡ 0 → IsRoomy page → IsTrue (covers page a)
+    → phys ≡ page.phys + (a - page.base) → HasPhys release phys → InPage release page a
+frame_in release page a phys aligned roomy covered is shared =
+    let base = of_frames page.size page.base roomy.base in
+    let frames = of_frames page.size page.phys roomy.frame in
+    let memory = of_frames release.size release.phys aligned in
+    let within = (covers_means page a).0 covered in
+    let frame = (a - page.base) / 4096 in
+    let so = in_frame page.base a base within.0 in
+    let offset : frame * 4096 ≤ a - page.base = omega (arith, so.low, within.0) in
+    record {
+      frame = frame;
+      low = omega (arith, offset, within.0);
+      same = so.same;
+      within = omega (arith, offset, within.0, within.1);
+      has = (omega (arith, shared.0, is, frames, memory, so.high, within.0), omega (arith, shared.1, is, offset));
+    }
 
 -- a page that is seen and alive leads there at or below an address, and shares memory with the release
 pub record ReachedPage (start : Space) (segment : Recording) (own earlier : List PlacedChange) (seen : List Seen) (release : Release) (address : ℕ)
@@ -153,6 +184,20 @@ module _ (start : Space) (segment : Recording) (own : List PlacedChange) (are : 
   -- ---- which page is found
 
   module _ (earlier : List PlacedChange) (event : ℕ) (page : Page) where
+    -- an address with the same changes is left so too
+    pub alike_open : (a b : ℕ) → AreAlike own a b → AreAlike earlier a b → IsOpen start segment earlier event a (Some page)
+        → IsOpen start segment earlier event b (Some page)
+    alike_open a b alike left_alike (none, it) = (
+      (λ place taken early. none place (takes_alike b a place (alike_back own a b alike) taken) early),
+      record {
+        change = it.change;
+        has = it.has;
+        covers_it = (left_alike it.change it.has).0 it.covers_it;
+        still_open = λ other has_other covers_it early. it.still_open other has_other ((left_alike other has_other).1 covers_it) early;
+        looks = it.looks;
+      },
+    )
+
     -- an address of the page with the same changes may be found so too
     pub alike_finds : (a b n : ℕ) → AreAlike own a b → AreAlike earlier a b → IsTrue (covers page b) → FindsAt start segment earlier event page a n
         → FindsAt start segment earlier event page b n
@@ -169,16 +214,7 @@ module _ (start : Space) (segment : Recording) (own : List PlacedChange) (are : 
           },
           looks,
         )
-    alike_finds a b n alike left_alike covers_b (inr (none, it)) = inr (
-      (λ place taken early. none place (takes_alike b a place (alike_back own a b alike) taken) early),
-      record {
-        change = it.change;
-        has = it.has;
-        covers_it = (left_alike it.change it.has).0 it.covers_it;
-        still_open = λ other has_other covers_it early. it.still_open other has_other ((left_alike other has_other).1 covers_it) early;
-        looks = it.looks;
-      },
-    )
+    alike_finds a b n alike left_alike covers_b (inr it) = inr (alike_open a b alike left_alike it)
 
     -- a touch that finds it there is right
     pub finds_right : (before : Option Run) → GoesOn before segment start → AreOfRun before earlier → (b phys n : ℕ) → phys ≡ page.phys + (b - page.base)
@@ -195,8 +231,8 @@ module _ (start : Space) (segment : Recording) (own : List PlacedChange) (are : 
 module _ (start : Space) (segment : Recording) (own earlier : List PlacedChange) (are : AreChanges start segment own)
     (numbered : (c : PlacedChange) → Contains own c → IsNumbered c) (left_numbered : (c : PlacedChange) → Contains earlier c → IsNumbered c)
     (space : Space) (depth : Depth) (is_space : IsSpace depth space) (whole : space ≡ space_from start segment segment.log)
-    (places : ℕ) (many : places ≡ length segment.log) (seen : List Seen) (all : AreSeen own earlier (pages space) places seen) (event : ℕ)
-    (fits : event < 2 ^ 32) where
+    (places : ℕ) (many : places ≡ length segment.log) (listed : List PlacedChange) (seen : List Seen) (all : AreSeen own listed (pages space) places seen)
+    (event : ℕ) (fits : event < 2 ^ 32) where
   -- ---- at a moment of the segment
 
   module _ (touch : Touch) (made : touch.made ≡ event) (answered : touch.answered ≡ event) (n : ℕ) (allowed : IsAllowedPrefix start segment touch n)
@@ -230,7 +266,7 @@ module _ (start : Space) (segment : Recording) (own earlier : List PlacedChange)
         let same : page_before c.change ≡ Some page =
         sym (known.was touch.address covered) ∙ ap (page_after start segment touch.address) place
         ∙ sym (same_within start segment touch.address n p low none) ∙ at in
-        let there = was_there c page same in
+        let there = was_there c.change page same in
         let mine : (d : PlacedChange) → Contains own d → IsOf (number_of c.change.page) d → Covers touch.address d =
         λ d has_d of. own_covers c.change.page touch.address (numbered c has).aligned covered d (numbered d has_d) of in
         record {
@@ -276,17 +312,17 @@ module _ (start : Space) (segment : Recording) (own earlier : List PlacedChange)
   -- ---- behind the segments before
 
   module _ (touch : Touch) (made : touch.made ≡ event) (page : Page) (none : EndsNowhere start segment touch.address (Some page) touch.made)
-      (it : IsLeftAt earlier touch.address (Some page)) where
+      (it : IsLeftAt earlier touch.address (Some page)) (lists : Contains listed it.change) where
     left_found : FoundPage own seen event touch.address page 0
     left_found =
-        let there = was_there it.change page it.looks in
+        let there = was_there it.change.change page it.looks in
         let still : nat_lt (taken_at it.change) 4294967295 ≡ false = elim (cases_lt (taken_at it.change) 4294967295) [
           | inl early ↦ absurd (let l = it.still_open it.change it.has it.covers_it early in omega (arith, l))
           | inr fine ↦ grind (arith, nat_tests)
         ] in
         let is = left_numbered it.change it.has in record {
           s = seen_left it.change;
-          has = all.left it.change it.has;
+          has = all.left it.change lists;
           is = there.1;
           covered = subst (λ (q : Page). IsTrue (covers q touch.address)) there.1 it.covers_it;
           alive = record {
@@ -311,19 +347,10 @@ module _ (start : Space) (segment : Recording) (own earlier : List PlacedChange)
     leads_so : (a phys n : ℕ) (page : Page) (there : FoundPage own seen event a page n) → phys ≡ page.phys + (a - page.base) → HasPhys release phys
         → FindsAt start segment earlier event page a n → ReachedPage start segment own earlier seen release a
     leads_so a phys n page there is shared finds =
-        let roomy = subst (λ (q : Page). (q.base % bytes_of q.size ≡ 0) × (q.phys % bytes_of q.size ≡ 0)) there.is
-        (let r = all.roomy there.s there.has in (r.base, r.frame)) in
-        let base = of_frames page.size page.base roomy.0 in
-        let frames = of_frames page.size page.phys roomy.1 in
-        let memory = of_frames release.size release.phys aligned in
+        let roomy = subst IsRoomy there.is (all.roomy there.s there.has) in
         let within = (covers_means page a).0 there.covered in
-        let frame = (a - page.base) / 4096 in
-        let so = in_frame page.base a base within.0 in
-        let offset : frame * 4096 ≤ a - page.base = omega (arith, so.low, within.0) in
-        let covers_b : IsTrue (covers page (page.base + frame * 4096)) =
-        (covers_means page (page.base + frame * 4096)).1 (omega arith, omega (arith, so.low, within.1)) in
-        let back : (page.base + frame * 4096) - page.base ≡ frame * 4096 = omega arith in
-        let up : release.phys ≤ page.phys + frame * 4096 = omega (arith, shared.0, is, frames, memory, so.high, within.0) in
+        let at = frame_in release page a phys aligned roomy there.covered is shared in
+        let low = at.low in
         record {
           s = there.s;
           has = there.has;
@@ -334,26 +361,31 @@ module _ (start : Space) (segment : Recording) (own earlier : List PlacedChange)
           high = subst (λ (q : Page). phys < q.phys + bytes_of q.size) (sym there.is) (omega (arith, is, within.0, within.1));
           leads = subst (λ (q : Page). LeadsBelow start segment earlier release a q there.s.place) (sym there.is) (
             record {
-              frame = frame;
-              within = omega (arith, offset, within.0, within.1);
-              has = (up, omega (arith, shared.1, is, offset));
+              frame = at.frame;
+              within = at.within;
+              has = at.has;
               own = page;
               same = record { base = refl; size = refl; phys = refl };
               finds = (
                 n,
-                subst (λ (e : ℕ). FindsAt start segment earlier e page (page.base + frame * 4096) n) (sym now)
-                    (alike_finds start segment own are space depth is_space whole earlier event page a (page.base + frame * 4096) n
-                    (frame_alike own numbered a (page.base + frame * 4096) so.same)
-                    (frame_alike earlier left_numbered a (page.base + frame * 4096) so.same) covers_b finds),
+                subst (λ (e : ℕ). FindsAt start segment earlier e page (page.base + at.frame * 4096) n) (sym now)
+                    (alike_finds start segment own are space depth is_space whole earlier event page a (page.base + at.frame * 4096) n
+                    (frame_alike own numbered a (page.base + at.frame * 4096) at.same)
+                    (frame_alike earlier left_numbered a (page.base + at.frame * 4096) at.same)
+                    ((covers_means page (page.base + at.frame * 4096)).1 (omega arith, let less = at.within in omega (arith, less))) finds),
               );
             },
-            omega (arith, offset, within.0),
+            low,
             there.from,
           );
         }
 
-    pub reached : (can : IsReachable before start segment release) → ReachedPage start segment own earlier seen release can.touch.address
-    reached can = by ((parts_behind start segment earlier can.touch before goes_on of_run).0 can.right) where
+    module _ (can : IsReachable before start segment release) where
+      -- a page that the address of the touch was left to look as
+      abbrev FoundLeft : Type 0
+      FoundLeft = (page : Page) × IsOpen start segment earlier event can.touch.address (Some page)
+          × (can.phys ≡ page.phys + (can.touch.address - page.base))
+
       made : can.touch.made ≡ event
       made = can.made ∙ now
 
@@ -374,24 +406,60 @@ module _ (start : Space) (segment : Recording) (own earlier : List PlacedChange)
           ))
 
       left_over : (page : Option Page) → EndsNowhere start segment can.touch.address page can.touch.made → IsLeftAt earlier can.touch.address page
-          → ((own_page : Page) × (page ≡ Some own_page) × (can.phys ≡ own_page.phys + (can.touch.address - own_page.base)))
-          → ReachedPage start segment own earlier seen release can.touch.address
+          → ((own_page : Page) × (page ≡ Some own_page) × (can.phys ≡ own_page.phys + (can.touch.address - own_page.base))) → FoundLeft
       left_over page none it (found_page, same, is) =
           let nowhere = subst (λ (o : Option Page). EndsNowhere start segment can.touch.address o can.touch.made) same none in
           let at = subst (IsLeftAt earlier can.touch.address) same it in
-          leads_so can.touch.address can.phys 0 found_page (left_found can.touch made found_page nowhere at) is can.within
-          (inr (subst (λ (e : ℕ). EndsNowhere start segment can.touch.address (Some found_page) e) made nowhere, at))
+          (found_page, (subst (λ (e : ℕ). EndsNowhere start segment can.touch.address (Some found_page) e) made nowhere, at), is)
 
       by : IsRightTouch start segment can.touch ⊎ ((page : Option Page) × EndsNowhere start segment can.touch.address page can.touch.made
           × IsLeftAt earlier can.touch.address page × (can.touch.answer ≡ allow_in_page can.touch.address can.touch.mode can.touch.access page))
-          → ReachedPage start segment own earlier seen release can.touch.address
+          → ReachedPage start segment own earlier seen release can.touch.address ⊎ FoundLeft
       by (inl (inl (n, allowed, told))) =
-          in_segment n allowed (found_page can.phys can.touch.address can.touch.mode can.touch.access
-          (page_after start segment can.touch.address n) (sym can.finds ∙ told))
+          inl (in_segment n allowed (found_page can.phys can.touch.address can.touch.mode can.touch.access
+          (page_after start segment can.touch.address n) (sym can.finds ∙ told)))
       by (inl (inr (fault, m, lags))) =
           absurd (let clash : Allowed can.phys ≡ Fault (fault_code false can.touch.mode can.touch.access) = sym can.finds ∙ fault in cc)
       by (inr (page, none, it, answered)) =
-          left_over page none it (found_page can.phys can.touch.address can.touch.mode can.touch.access page (sym can.finds ∙ answered))
+          inr (left_over page none it (found_page can.phys can.touch.address can.touch.mode can.touch.access page (sym can.finds ∙ answered)))
+
+      own_or_left : ReachedPage start segment own earlier seen release can.touch.address ⊎ FoundLeft
+      own_or_left = by ((parts_behind start segment earlier can.touch before goes_on of_run).0 can.right)
+
+      -- it is found in a page that is seen, where those that earlier segments left are seen too
+      pub reached : ((c : PlacedChange) → Contains earlier c → Contains listed c) → ReachedPage start segment own earlier seen release can.touch.address
+      reached lists = elim own_or_left [
+        | inl own_page ↦ own_page
+        | inr (page, (nowhere, it), is) ↦
+            leads_so can.touch.address can.phys 0 page
+            (left_found can.touch made page (subst (λ (e : ℕ). EndsNowhere start segment can.touch.address (Some page) e) (sym made) nowhere) it
+            (lists it.change it.has)) is can.within (inr (nowhere, it))
+      ]
+
+      -- or by a frame that was left to look so
+      pub reached_so : ReachedPage start segment own earlier seen release can.touch.address ⊎ ReachedOpen start segment earlier release
+      reached_so = elim own_or_left [
+        | inl own_page ↦ inl own_page
+        | inr (page, (nowhere, it), is) ↦
+            let there = was_there it.change.change page it.looks in
+            let is_of = left_numbered it.change it.has in
+            let roomy : IsRoomy page = subst IsRoomy there.1 (record { base = is_of.aligned; frame = is_of.frame; ends = is_of.ends; low = is_of.low }) in
+            let covered = subst (λ (q : Page). IsTrue (covers q can.touch.address)) there.1 it.covers_it in
+            let at = frame_in release page can.touch.address can.phys aligned roomy covered is can.within in
+            let b = page.base + at.frame * 4096 in
+            inr (
+              page,
+              at.frame,
+              roomy,
+              record {
+                within = at.within;
+                has = at.has;
+                open_so = subst (λ (e : ℕ). IsOpen start segment earlier e b (Some page)) (sym now)
+                    (alike_open start segment own are space depth is_space whole earlier event page can.touch.address b
+                    (frame_alike own numbered can.touch.address b at.same) (frame_alike earlier left_numbered can.touch.address b at.same) (nowhere, it));
+              },
+            )
+      ]
 
 -- what leads there can be reached
 pub reachable : (before : Option Run) (start : Space) (segment : Recording) (release : Release) (page : Page) → LeadsThere before start segment release page

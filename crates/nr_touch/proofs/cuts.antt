@@ -3,6 +3,7 @@ pub mod Behind
 pub mod Ended
 pub mod Lefts
 pub mod Levels
+pub mod Listed
 pub mod Looks
 pub mod NoProtects
 pub mod Placed

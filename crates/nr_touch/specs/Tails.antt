@@ -11,6 +11,7 @@ use Rattle.nr_touch.specs.Touches.{page_after, ChangesLook, EndsLook}
 use Rattle.nr_touch.specs.inside.Changes.{page_before}
 use Rattle.nr_touch.specs.inside.Indexed.{HasPages}
 use Rattle.nr_touch.specs.inside.Levels.{AreLevels}
+use Rattle.nr_touch.specs.inside.Listed.{AreListed, HasRoom}
 use Rattle.nr_touch.specs.declared.touches.tail.Left.{Left}
 use Rattle.nr_touch.specs.declared.touches.tail.Tail.{Tail}
 
@@ -59,15 +60,20 @@ pub record AreSound (changes : List Left) : Type 0 where
   pub few : length changes < 4294967295
   pub each : (left : Left) → Contains changes left → IsSoundLeft left
 
--- each change of a tail has room, and they are little enough to be counted; and its levels have their columns
+-- each change of a tail has room, and they are little enough to be counted; its levels have their columns, and the pages that it lists have room
 abbrev pub IsSoundTail : Tail → Type 0
-IsSoundTail tail = AreSound tail.changes.items × AreLevels tail.changes.items tail.levels.items
+IsSoundTail tail = AreSound tail.changes.items × AreLevels tail.changes.items tail.levels.items × IfSome tail.index (λ index. HasRoom index.lingering)
 
--- what is left behind a run: just the looks that linger; and the index, if there is one, has each page of the space at its end
+-- the indexes of a tail, if there are any, have each page of a space, and each page that its changes leave
+abbrev pub HasIndexes : Tail → Space → Type 0
+HasIndexes tail space = IfSome tail.index (λ index.
+    HasPages index.pages space × AreListed (IsLeft tail.changes.items) index.lingering index.gone)
+
+-- what is left behind a run: just the looks that linger; and the indexes, if there are any, have each page of the space at its end, and each page that is left
 pub record IsTailOfRun (run : Run) (tail : Tail) : Type 0 where
   pub orderly : IsOrderly run.trace
   pub left : (address : ℕ) (page : Option Page) → IsLeft tail.changes.items address page ↔ Lingers run.start run.trace address page
-  pub index : IfSome tail.index (λ index. HasPages index (end_of run))
+  pub index : HasIndexes tail (end_of run)
 
 -- a segment goes on where a run ends, and is laid out as that
 abbrev pub GoesOn : Option Run → Recording → Space → Type 0

@@ -9,6 +9,7 @@ pub mod Earlier
 pub mod Indexed
 pub mod Lefts
 pub mod Levels
+pub mod Listed
 pub mod Lives
 pub mod Met
 pub mod Overs

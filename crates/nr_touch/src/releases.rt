@@ -3,6 +3,7 @@
 pub(crate) mod block;
 pub(crate) mod changed;
 pub(crate) mod index;
+pub(crate) mod lingering;
 pub(crate) mod lives;
 pub(crate) mod meeting;
 pub(crate) mod overs;

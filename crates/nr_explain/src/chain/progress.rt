@@ -4,8 +4,7 @@ ghost use Rattle.std.specs.Prelude.{◌≡◌, ◌<◌, IfOk, IfSome, None, coun
 ghost use Rattle.nr_trace.specs.Laws.{HasCleanLog};
 ghost use Rattle.nr_trace.specs.Orders.{recorded_order, space_from};
 ghost use Rattle.nr_touch.specs.Beside.{beside};
-ghost use Rattle.nr_touch.specs.Tails.{IsSoundTail};
-ghost use Rattle.nr_touch.specs.inside.Indexed.{HasPages};
+ghost use Rattle.nr_touch.specs.Tails.{HasIndexes, IsSoundTail};
 ghost use Rattle.nr_audit.specs.Verdict.{space_of};
 ghost use Rattle.nr_audit.specs.Start.{first_space};
 ghost use Rattle.nr_explain.specs.Progress.{is_release, is_there, is_touch, nothing_yet, sums_after};
@@ -199,7 +198,7 @@ pub(crate) fn go_on(
     requires after { after.space ≡ space_of segment.now.layout
         (space_from (first_space (space_seen (all_states last)) segment.now) segment.now
         segment.now.log) }
-    requires index { IfSome after.tail.index (λ index. HasPages index after.space.space) }
+    requires index { HasIndexes after.tail after.space.space }
     requires sound { IsSoundTail after.tail }
     ensures layout { IfOk result (λ done. done.0.layout ≡ segment.now.layout) }
     ensures space { IfOk result (λ done. done.0.space ≡ after.space) }

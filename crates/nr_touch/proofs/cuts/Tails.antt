@@ -13,16 +13,17 @@ use Rattle.nr_trace.specs.Calls.{Answers}
 use Rattle.nr_trace.specs.Orders.{space_from}
 use Rattle.nr_joined.specs.Run.{Run, run_with, IsOrderly}
 use Rattle.nr_joined.proofs.Orderly.{orderly_both, space_of_both}
-use Rattle.nr_touch.specs.Tails.{GoesOn, IsLeft, IsNeverAnswered, IsTailOf, Lingers}
+use Rattle.nr_touch.specs.Tails.{GoesOn, HasIndexes, IsLeft, IsNeverAnswered, IsTailOf, Lingers}
 use Rattle.nr_touch.specs.Touches.{page_after, ChangesLook, EndsLook, IsAnsweredInTime, IsFaultOfLagging, IsRightBehind, IsRightTouch}
 use Rattle.nr_touch.specs.inside.Changes.{ended_at, page_before, AreChanges}
 use Rattle.nr_touch.specs.inside.Columns.{Covers, IsNumbered, IsPast}
 use Rattle.nr_touch.specs.inside.Earlier.{AreOfRun, EndsNowhere, IsAnsweredSo, IsLeftAt}
 use Rattle.nr_touch.specs.inside.Indexed.{HasPages}
 use Rattle.nr_touch.specs.inside.Lefts.{left_of, ArePlacedAs, KeepLooks}
+use Rattle.nr_touch.specs.inside.Listed.{AreListed}
 use Rattle.nr_touch.specs.inside.Sights.{IsAnsweredBetween}
 use Rattle.nr_touch.specs.declared.changes.change.PlacedChange.{PlacedChange}
-use Rattle.nr_touch.specs.declared.releases.index.Index.{Index}
+use Rattle.nr_touch.specs.declared.releases.lingering.Indexes.{Indexes}
 use Rattle.nr_touch.specs.declared.touches.tail.Left.{Left}
 use Rattle.nr_touch.specs.declared.touches.tail.Tail.{Tail}
 use Rattle.nr_touch.specs.declared.touches.touch.Touch.{Touch}
@@ -34,11 +35,14 @@ use Rattle.nr_touch.proofs.cuts.Placed.{left_lingers, left_sorted, no_end, AreRi
 
 -- ---- what is left behind a run and a segment
 
+pub no_indexes : (tail : Tail) (space : Space) → tail.index ≡ None → HasIndexes tail space
+no_indexes tail space none =
+    subst (λ (index : Option Indexes). IfSome index (λ i. HasPages i.pages space × AreListed (IsLeft tail.changes.items) i.lingering i.gone)) (sym none) tt
+
 pub index_of_tail : (before : Option Run) (start : Space) (segment : Recording) (tail : Tail) → GoesOn before segment start → IsTailOf before tail
-    → IfSome tail.index (λ i. HasPages i start)
-index_of_tail None start segment tail goes_on (none, no_index) = subst (λ (index : Option Index). IfSome index (λ i. HasPages i start)) (sym no_index) tt
-index_of_tail (Some run) start segment tail (ends, same_layout) of_it =
-    subst (λ (space : Space). IfSome tail.index (λ i. HasPages i space)) (sym ends) of_it.index
+    → HasIndexes tail start
+index_of_tail None start segment tail goes_on (none, no_index) = no_indexes tail start no_index
+index_of_tail (Some run) start segment tail (ends, same_layout) of_it = subst (HasIndexes tail) (sym ends) of_it.index
 
 -- what lingers behind a run and a segment: what does behind the segment, and what was left before it, where no answer of the segment ends that
 abbrev AreOpen : Space → Recording → ℕ → Option Page → Type 0
@@ -70,7 +74,7 @@ lingers_with (Some run) start segment tail of_it (ends, same_layout) address pag
 
 -- a tail that has these looks
 with_looks : (before : Option Run) (start : Space) (segment : Recording) (tail found : Tail) → IsTailOf before tail → GoesOn before segment start
-    → IsOrderly segment → IfSome found.index (λ i. HasPages i (space_from start segment segment.log))
+    → IsOrderly segment → HasIndexes found (space_from start segment segment.log)
     → ((address : ℕ) (page : Option Page) → IsLeft found.changes.items address page
     ↔ LingersWith start segment address page (IsLeft tail.changes.items address page))
     → IsTailOf (Some (run_with before start segment)) found
@@ -86,13 +90,13 @@ with_looks before start segment tail found of_it goes_on orderly indexed looks =
       by (Some run) of_tail (ends, same_layout) left = record {
         orderly = orderly_both run.trace segment of_tail.orderly orderly;
         left = left;
-        index = subst (λ (space : Space). IfSome found.index (λ i. HasPages i space))
+        index = subst (HasIndexes found)
             (ap (λ (s : Space). space_from s segment segment.log) ends ∙ sym (space_of_both run.start run.trace segment same_layout of_tail.orderly)) indexed;
       }
 
 pub tail_with : (start : Space) (segment : Recording) → IsOrderly segment → (own : List PlacedChange) → AreChanges start segment own → AreRising own
     → length segment.events < 4294967295 → (before : Option Run) (tail found : Tail)
-    → IfSome found.index (λ i. HasPages i (space_from start segment segment.log)) → IsTailOf before tail → GoesOn before segment start
+    → HasIndexes found (space_from start segment segment.log) → IsTailOf before tail → GoesOn before segment start
     → KeepLooks (tail.changes.items ++ map left_of own) found.changes.items → IsTailOf (Some (run_with before start segment)) found
 tail_with start segment orderly own are rises few before tail found indexed of_it goes_on keep =
     with_looks before start segment tail found of_it goes_on orderly indexed (λ address page. (
@@ -117,7 +121,7 @@ pub nothing_left : (segment : Recording) → ((place call : ℕ) → slice_get s
     → EachEnds start segment → IsTailOf (Some (run_with before start segment)) tail
 nothing_left segment answered before start tail of_it (none, no_index) goes_on orderly each =
     with_looks before start segment tail tail of_it goes_on orderly
-    (subst (λ (index : Option Index). IfSome index (λ i. HasPages i (space_from start segment segment.log))) (sym no_index) tt) (λ address page. (
+    (no_indexes tail (space_from start segment segment.log) no_index) (λ address page. (
       λ left. absurd (subst (λ (xs : List Left). IsLeft xs address page) none left),
       λ it. elim it [
         | inl own ↦ absurd (none_lingers address page own)

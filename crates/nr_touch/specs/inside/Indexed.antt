@@ -1,4 +1,4 @@
--- The pages of a space by the memory that they lead into. Public clauses cite HasPages alone.
+-- The pages of a space by the memory that they lead into. No public clause cites more of them than HasPages.
 use Rattle.std.specs.Prelude.{◌≡◌, ℕ, List, Contains, IsTrue}
 use Rattle.std.specs.BTreeSet.{contains}
 use Rattle.std.specs.Ordering.{nat_cmp, ordering_then}
@@ -9,13 +9,17 @@ use Rattle.nr_touch.specs.inside.Blocks.{IsBlockOf}
 use Rattle.nr_touch.specs.declared.changes.change.PlacedChange.{PlacedChange}
 use Rattle.nr_touch.specs.declared.releases.index.Index.{Index}
 
--- the order of the rows: by block, and then by base
+-- the order of the rows: by block, and then by key
 abbrev pub row_cmp : ℕ × ℕ → ℕ × ℕ → Ordering
 row_cmp one other = ordering_then (nat_cmp one.0 other.0) (nat_cmp one.1 other.1)
 
--- a page has its rows in the index: its base under each block that it leads into
+-- a page has its rows in the index: its key under each block that it leads into
+abbrev pub IsIndexedAs : Index → Page → ℕ → Type 0
+IsIndexedAs index page key = (block : ℕ) → IsBlockOf page block → IsTrue (contains row_cmp index.rows (block, key))
+
+-- so of a page whose key is its base
 abbrev pub IsIndexed : Index → Page → Type 0
-IsIndexed index page = (block : ℕ) → IsBlockOf page block → IsTrue (contains row_cmp index.rows (block, page.base))
+IsIndexed index page = IsIndexedAs index page page.base
 
 -- each page of a space has its rows in the index
 abbrev pub HasPages : Index → Space → Type 0

@@ -1,5 +1,5 @@
 -- Stays that are over for the memory of a release: no later release of it is compared with them. No public clause cites this file.
-use Rattle.std.specs.Prelude.{◌≡◌, ℕ, ◌+◌, ◌*◌, ◌<◌, ◌≤◌, List, slice_get, slice_index, Some, Contains}
+use Rattle.std.specs.Prelude.{◌≡◌, ℕ, ◌+◌, ◌*◌, ◌<◌, ◌≤◌, ◌⊎◌, List, slice_get, slice_index, Some, Contains}
 use Rattle.std.specs.BTreeMap.{get}
 use Rattle.vs_types.specs.Page.{bytes_of}
 use Rattle.vs_types.specs.Space.{Space}
@@ -21,6 +21,27 @@ pub record IsAgain (release later : Release) : Type 0 where
   pub size : later.size ≡ release.size
   pub phys : later.phys ≡ release.phys
   pub made : release.made ≤ later.made
+
+-- one release is of the memory of another
+pub record IsOfMemory (release other : Release) : Type 0 where
+  pub size : other.size ≡ release.size
+  pub phys : other.phys ≡ release.phys
+
+-- what was noted of the memory of a release, and of a block
+pub record IsNoted (overs : Overs) (release : Release) (block : ℕ) (over : Over) : Type 0 where
+  pub key : ℕ × ℕ
+  pub has : get row_cmp overs.known key ≡ Some over
+  pub of_block : over.block ≡ block
+  pub memory : IsOfMemory over.release release
+
+-- nothing was noted
+abbrev pub KnowsNothing : Overs → Type 0
+KnowsNothing overs = (key : ℕ × ℕ) (over : Over) → get row_cmp overs.known key ≡ Some over → ⊥
+
+-- one note more, in the place of what had its key
+abbrev pub AddsNote : Overs → Release → ℕ → ℕ → Overs → Type 0
+AddsNote old release block rows new = (key : ℕ × ℕ) (over : Over) → get row_cmp new.known key ≡ Some over
+    → (get row_cmp old.known key ≡ Some over) ⊎ ((over.release ≡ release) × (over.block ≡ block) × (over.rows ≡ rows))
 
 -- of each address at which the page has memory of the release, the changes before the place were made by the release
 abbrev pub IsSettled : List PlacedChange → Release → Page → ℕ → Type 0

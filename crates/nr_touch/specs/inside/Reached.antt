@@ -1,5 +1,5 @@
 -- The pages that a touch may find, and how a release is compared with them. No public clause cites this file.
-use Rattle.std.specs.Prelude.{◌≡◌, ℕ, ◌+◌, ◌*◌, ◌%◌, ◌<◌, ◌≤◌, ◌^◌, ◌&&◌, ◌⊎◌, min, nat_lt, not, true, List, None, Option, Some, Contains}
+use Rattle.std.specs.Prelude.{◌≡◌, ℕ, ◌+◌, ◌*◌, ◌<◌, ◌≤◌, ◌&&◌, ◌⊎◌, min, nat_lt, not, true, List, None, Option, Some, Contains}
 use Rattle.vs_types.specs.Page.{bytes_of}
 use Rattle.vs_types.specs.Space.{Space}
 use Rattle.vs_types.specs.declared.access.Access.TheVariants.{Read}
@@ -17,6 +17,7 @@ use Rattle.nr_touch.specs.declared.changes.change.PlacedChange.{PlacedChange}
 use Rattle.nr_touch.specs.declared.releases.release.Release.{Release}
 use Rattle.nr_touch.specs.declared.releases.seen.Seen.{Seen}
 use Rattle.nr_touch.specs.declared.touches.touch.Touch.{Touch}
+pub use Rattle.nr_touch.specs.inside.Blocks.{IsRoomy, IsSamePlace}
 
 -- the touch that is made and answered at an event, and finds this physical address at that one
 abbrev pub probe_at : ℕ → ℕ → ℕ → Touch
@@ -30,13 +31,6 @@ probe_at event address phys = record {
   answer = Allowed phys;
 }
 
--- a page that begins at multiples of its size, and ends in time
-pub record IsRoomy (page : Page) : Type 0 where
-  pub base : page.base % bytes_of page.size ≡ 0
-  pub frame : page.phys % bytes_of page.size ≡ 0
-  pub ends : page.base + bytes_of page.size ≤ 2 ^ 64
-  pub low : page.phys + bytes_of page.size < 2 ^ 64
-
 -- the memory of a release has what lies so far behind the base of a page, and a touch that finds it there would be right
 pub record IsMetAt (before : Option Run) (start : Space) (segment : Recording) (release : Release) (page : Page) (offset : ℕ) : Type 0 where
   pub has : HasPhys release (page.phys + offset)
@@ -48,17 +42,21 @@ pub record LeadsThere (before : Option Run) (start : Space) (segment : Recording
   pub within : frame * 4096 < bytes_of page.size
   pub met : IsMetAt before start segment release page (frame * 4096)
 
--- two pages have the same addresses and the same memory, whatever their rights
-pub record IsSamePlace (page other : Page) : Type 0 where
-  pub base : page.base ≡ other.base
-  pub size : page.size ≡ other.size
-  pub phys : page.phys ≡ other.phys
+-- an address is left to look so, and nothing ended this by the event
+abbrev pub IsOpen : Space → Recording → List PlacedChange → ℕ → ℕ → Option Page → Type 0
+IsOpen start segment earlier event address page = EndsNowhere start segment address page event × IsLeftAt earlier address page
+
+-- so of a frame of a page that the memory of a release has, at the release
+pub record IsOpenThere (start : Space) (segment : Recording) (earlier : List PlacedChange) (release : Release) (page : Page) (frame : ℕ) : Type 0 where
+  pub within : frame * 4096 < bytes_of page.size
+  pub has : HasPhys release (page.phys + frame * 4096)
+  pub open_so : IsOpen start segment earlier release.made (page.base + frame * 4096) (Some page)
 
 -- a touch that is made and answered at an event may find just this page at an address: as after so many entries of the segment, or as the changes leave it
 abbrev pub FindsAt : Space → Recording → List PlacedChange → ℕ → Page → ℕ → ℕ → Type 0
 FindsAt start segment earlier event page address n =
     (IsAllowedPrefix start segment (probe_at event address 0) n × (page_after start segment address n ≡ Some page))
-    ⊎ (EndsNowhere start segment address (Some page) event × IsLeftAt earlier address (Some page))
+    ⊎ IsOpen start segment earlier event address (Some page)
 
 -- as after some number of entries
 abbrev pub FindsPage : Space → Recording → List PlacedChange → ℕ → Page → ℕ → Type 0

@@ -1,5 +1,4 @@
-//! A release beside the pages that updates of its segment changed, or that updates of earlier segments may still have left: a search finds
-//! those that may be met.
+//! A release beside the pages that updates of its segment changed: a search finds those that may be met.
 
 ghost use Rattle.std.specs.Prelude.{◌≡◌, ℕ, ◌+◌, ◌<◌, ◌≤◌, ◌^◌, ◌⊎◌, if◌then◌else◌, false, length, max, slice_get, Contains, IfOk, IsTrue, OnOk, Option, Some};
 ghost use Rattle.vs_types.specs.Space.{Space};
@@ -23,14 +22,14 @@ use crate::releases::lives::Lives;
 use crate::releases::meeting::{is_settled, leads_there};
 use crate::releases::overs::Overs;
 use crate::releases::release::Release;
-use crate::releases::seen::seen_of;
+use crate::releases::seen::seen_in;
 use crate::releases::stays::{Stay, stays_of};
 use crate::releases::stretches::Stretches;
 use std::alloc::Global;
 use vs_plain::PlainSpace;
 use vs_types::{Memory, Page, Size};
 
-/// The pages that changes are of, and from when on and until when a touch may find them, as far as these say.
+/// The pages that changes of a segment are of, and from when on and until when a touch may find them, as far as these say.
 #[derive(Debug, Drop)]
 pub(crate) struct Changed {
     pub(crate) stays: Vec<Stay>,
@@ -39,23 +38,20 @@ pub(crate) struct Changed {
 }
 
 impl Changed {
-    /// Those of the pages that are there after the log, of so many places, and of the ones before each change of the segment, or left
-    /// before it. Allocates at most 344 bytes for each of them, of which 160 are freed.
+    /// Those of the pages that are there after the log, of so many places, and of the ones before each change of the segment. Allocates
+    /// at most 344 bytes for each of them, of which 160 are freed.
     pub(crate) fn of(
         alloc: Global,
         history: &History,
-        earlier: &[History],
         present: &[Page],
         places: u32,
     ) -> Result<Changed, Memory>
         requires own { AreColumns history.now }
-        requires earlier { IsLadder earlier.now }
         requires roomy { (page : PageRow) → Contains present.now page → IsRoomy page }
-        ensures seen { IfOk result (HasSeen history.now.changes.items
-            (left_in earlier.now) present.now places) }
+        ensures seen { IfOk result (HasSeen history.now.changes.items present.now places) }
         ensures rows { IfOk result AreRows }
     {
-        let seen = seen_of(alloc, history, earlier, present, places)?;
+        let seen = seen_in(alloc, history, present, places)?;
         let stays = stays_of(alloc, history, seen)?;
         let lives = Lives::of(alloc, &stays)?;
         let stretches = Stretches::of(alloc, &lives, &stays)?;

@@ -1,9 +1,9 @@
-//! The pages of a space by the memory that they lead into: so that a release costs a few searches, however many pages the space has.
+//! Pages by the memory that they lead into: so that a release costs a few searches, however many pages there are.
 
-ghost use Rattle.std.specs.Prelude.{◌≡◌, ◌⊎◌, Contains, IfOk, IfSome, OnOk, Some};
+ghost use Rattle.std.specs.Prelude.{◌≡◌, ℕ, ◌⊎◌, Contains, IfOk, IfSome, OnOk, Some};
 ghost use Rattle.vs_types.specs.Space.{Holds};
 ghost use Rattle.vs_types.specs.declared.page.Page.{Page as PageRow};
-ghost use Rattle.nr_touch.specs.inside.Indexed.{HasOwn, HasPages, IsIndexed};
+ghost use Rattle.nr_touch.specs.inside.Indexed.{HasOwn, HasPages, IsIndexed, IsIndexedAs};
 ghost use Rattle.nr_touch.specs.inside.Reached.{IsRoomy};
 
 use crate::changes::change::PlacedChange;
@@ -14,7 +14,7 @@ use vs_plain::PlainSpace;
 use vs_plain::laws::pages_are_a_space;
 use vs_types::{Answer, Memory, Page};
 
-/// The bases of pages, each under the four blocks of memory that its page leads into.
+/// The keys of pages, each under the four blocks of memory that its page leads into: of the pages of a space their bases.
 #[derive(Debug, Drop)]
 pub(crate) struct Index {
     pub(crate) rows: BTreeSet<(u64, u64)>,
@@ -91,19 +91,19 @@ impl Index {
             rows: BTreeSet::new(alloc),
         };
         for page in space.iter() {
-            index.note(page)?;
+            index.note(page, page.base)?;
         }
         Ok(index)
     }
 
     /// Gives a page its rows. Allocates memory for new ones.
-    fn note(&mut self, page: Page) -> Result<(), Memory>
-        ensures own { OnOk result (IsIndexed self.new page) }
-        ensures others { OnOk result ((other : PageRow) → IsIndexed self.old other
-            → IsIndexed self.new other) }
+    pub(crate) fn note(&mut self, page: Page, key: u64) -> Result<(), Memory>
+        ensures own { OnOk result (IsIndexedAs self.new page key) }
+        ensures others { OnOk result ((other : PageRow) (own : ℕ) → IsIndexedAs self.old other own
+            → IsIndexedAs self.new other own) }
     {
         for block in blocks(page) {
-            self.rows.insert((block, page.base))?;
+            self.rows.insert((block, key))?;
         }
         Ok(())
     }
@@ -126,7 +126,7 @@ impl Index {
             → IsIndexed self.new page) }
     {
         for page in pages {
-            self.note(*page)?;
+            self.note(*page, page.base)?;
         }
         Ok(())
     }

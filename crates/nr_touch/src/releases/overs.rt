@@ -1,10 +1,10 @@
 //! What releases were compared with in vain: a page that is over for a memory stays over, so a later release of it isn't compared with that
 //! page again.
 
-ghost use Rattle.std.specs.Prelude.{◌≡◌, List, OnOk, IsTrue};
+ghost use Rattle.std.specs.Prelude.{◌≡◌, List, IfSome, IsTrue, OnOk};
 ghost use Rattle.vs_types.specs.Space.{Space};
 ghost use Rattle.nr_trace.specs.Recording.{Recording};
-ghost use Rattle.nr_touch.specs.inside.Overs.{AreKnown, AreOver, IsAgain};
+ghost use Rattle.nr_touch.specs.inside.Overs.{AddsNote, AreKnown, AreOver, IsNoted, IsOfMemory, KnowsNothing};
 ghost use Rattle.nr_touch.specs.declared.changes.change.PlacedChange.{PlacedChange as PlacedRow};
 ghost use Rattle.nr_touch.specs.declared.releases.changed.Changed.{Changed as ChangedRow};
 
@@ -36,43 +36,52 @@ fn memory_of(release: &Release) -> u64 {
     }
 }
 
-/// Whether what is over from one release on is so from the other on, which is of the same memory and not before it.
-fn is_again(release: &Release, later: &Release) -> bool
-    ensures { IsTrue result → IsAgain release.now later.now }
+/// Whether the other release is of the memory of this one.
+fn is_of(release: &Release, other: &Release) -> bool
+    ensures { IsTrue result → IsOfMemory release.now other.now }
 {
-    if later.size != release.size {
+    if other.size != release.size {
         return false;
     }
-    if later.phys != release.phys {
-        return false;
-    }
-    release.made <= later.made
+    other.phys == release.phys
 }
 
 impl Overs {
     /// Before all releases nothing is known. It allocates no memory.
     pub(crate) fn none(alloc: Global) -> Overs
-        ensures { (start : Space) (segment : Recording) (earlier : List PlacedRow)
-            (changed : ChangedRow) → AreKnown start segment earlier changed result }
+        ensures { KnowsNothing result }
     {
         Overs {
             known: BTreeMap::new(alloc),
         }
     }
 
-    /// How many of the first rows a release needs no comparison with, if they are of this block: a search.
+    /// What was noted of the memory of a release, and of a block: a search.
+    pub(crate) fn noted(&self, release: &Release, block: u64) -> Option<Over>
+        ensures { IfSome result (IsNoted self.now release.now block) }
+    {
+        let Some(over) = self.known.get(&(memory_of(release), block)) else {
+            return None;
+        };
+        if over.block != block {
+            return None;
+        }
+        if !is_of(&over.release, release) {
+            return None;
+        }
+        Some(*over)
+    }
+
+    /// How many of the first rows a release needs no comparison with, if they are of this block, and the releases come by event.
     pub(crate) fn rows(&self, release: &Release, block: u64) -> usize
         ensures { (start : Space) (segment : Recording) (earlier : List PlacedRow)
             (changed : ChangedRow) → AreKnown start segment earlier changed self.now
             → AreOver start segment earlier changed release.now block 0 result }
     {
-        let Some(over) = self.known.get(&(memory_of(release), block)) else {
+        let Some(over) = self.noted(release, block) else {
             return 0;
         };
-        if over.block != block {
-            return 0;
-        }
-        if !is_again(&over.release, release) {
+        if release.made < over.release.made {
             return 0;
         }
         over.rows
@@ -80,10 +89,7 @@ impl Overs {
 
     /// Notes how many of the first rows are over from the release on, if they are of this block. Allocates memory for a new row.
     pub(crate) fn note(&mut self, release: &Release, block: u64, rows: usize) -> Result<(), Memory>
-        ensures { OnOk result ((start : Space) (segment : Recording) (earlier : List PlacedRow)
-            (changed : ChangedRow) → AreKnown start segment earlier changed self.old
-            → AreOver start segment earlier changed release.now block 0 rows
-            → AreKnown start segment earlier changed self.new) }
+        ensures { OnOk result (AddsNote self.old release.now block rows self.new) }
     {
         let over = Over {
             release: *release,

@@ -1,45 +1,51 @@
 //! The search for the first release of memory that can be reached.
 
-ghost use Rattle.std.specs.Prelude.{◌≡◌, ◌↔◌, ◌<◌, length, Contains, IfOk, IfSome, IsTrue, List, None, OnOk, Option};
+ghost use Rattle.std.specs.Prelude.{◌≡◌, ℕ, ◌↔◌, ◌<◌, length, Contains, IfOk, IfSome, IsTrue, List, None, OnOk, Option};
 ghost use Rattle.vs_types.specs.Space.{Space, pages};
 ghost use Rattle.nr_trace.specs.Laws.{HasCleanLog};
 ghost use Rattle.nr_trace.specs.Orders.{space_from};
 ghost use Rattle.nr_trace.specs.Recording.{IsMemory, Recording};
 ghost use Rattle.nr_joined.specs.Run.{Run};
 ghost use Rattle.nr_touch.specs.Releases.{AreMemory, FindsReachable, FindsReached, IsWrongRelease};
-ghost use Rattle.nr_touch.specs.Tails.{GoesOn, AreSound, IsTailOf};
+ghost use Rattle.nr_touch.specs.Tails.{GoesOn, AreSound, IsLeft, IsTailOf};
 ghost use Rattle.nr_touch.specs.declared.changes.change.PlacedChange.{PlacedChange as PlacedRow};
+ghost use Rattle.nr_touch.specs.declared.releases.lingering.Lingering.{Lingering as LingeringRow};
+ghost use Rattle.nr_touch.specs.declared.releases.overs.Overs.{Overs as OversRow};
 ghost use Rattle.nr_touch.specs.declared.releases.seen.Seen.{Seen as SeenRow};
 ghost use Rattle.nr_touch.specs.inside.Columns.{AreColumns};
 ghost use Rattle.nr_touch.specs.inside.Earlier.{IsFollowed};
 ghost use Rattle.nr_touch.specs.inside.Indexed.{HasPages, HasStayed, HavePresent, HaveQuiet};
+ghost use Rattle.nr_touch.specs.inside.Listed.{AreListed, HasRoom};
 ghost use Rattle.nr_touch.specs.inside.Met.{IsMetBy};
 ghost use Rattle.nr_touch.specs.inside.Overs.{AreKnown};
-ghost use Rattle.nr_touch.specs.inside.Reached.{AreSeen, FindsAddress, IsLower, IsRoomy};
-ghost use Rattle.nr_touch.specs.inside.Levels.{left_in, IsLadder};
+ghost use Rattle.nr_touch.specs.inside.Reached.{AreSeen, FindsAddress, IsLower, IsOpen, IsRoomy};
+ghost use Rattle.nr_touch.specs.inside.Levels.{left_in, AreLevels, IsLadder};
 
 use crate::changes::change::PlacedChange;
 use crate::changes::history::History;
 use crate::changes::replay::replay;
 use crate::releases::changed::{Changed, leads_by_changes};
 use crate::releases::index::{Index, changed_now};
+use crate::releases::lingering::{Indexes, Lingering, with_listed};
 use crate::releases::meeting::{event_fits, frame_address, frame_there};
 use crate::releases::overs::Overs;
 use crate::releases::quiet::leads_by_index;
 use crate::releases::release::Release;
 use crate::releases::seen::{Seen, seen_of};
-use crate::touches::tail::{Tail, one_level};
+use crate::touches::tail::{Left, Tail, one_level};
 use nr_trace::Trace;
 use std::alloc::Global;
 use vs_plain::PlainSpace;
 use vs_plain::laws::pages_are_a_space;
 use vs_types::{Memory, Page};
 
-/// The pages that a touch of a segment may find: those that no change of the segment is of, and those that changes are of.
+/// The pages that a touch of a segment may find: those that no change of the segment is of, those that its changes are of, and those that
+/// addresses were left to look as before it.
 #[derive(Debug, Drop)]
 pub(crate) struct Reach {
     quiet: Index,
     changed: Changed,
+    lingering: Lingering,
 }
 
 /// Whether the release is wrong: it is answered otherwise than by `Done`, or an access that begins with it could reach its memory. Allocates
@@ -51,31 +57,51 @@ fn is_wrong(
     places: u32,
     reach: &Reach,
     overs: &mut Overs,
+    gone: &mut Overs,
     release: &Release,
 ) -> Result<bool, Memory>
     requires own { AreColumns history.now }
     requires earlier { IsLadder earlier.now }
-    requires met { IsMetBy history.now.changes.items (left_in earlier.now) space.now.space
-        places reach.now.changed }
+    requires met { IsMetBy history.now.changes.items space.now.space places reach.now.changed }
+    requires room { HasRoom reach.now.lingering }
     requires memory { IsMemory release.now.size release.now.phys }
     ensures wrong { (before : Option Run) (start : Space) (segment : Recording)
         → IsFollowed before start segment history.now earlier.now
         → space.now.space ≡ space_from start segment segment.log → places ≡ length segment.log
         → HaveQuiet history.now.changes.items space.now.space reach.now.quiet
         → AreKnown start segment (left_in earlier.now) reach.now.changed overs.old
+        → AreListed (IsOpen start segment (left_in earlier.now) release.now.made)
+        reach.now.lingering gone.old
         → IfOk result (λ wrong. IsTrue wrong ↔ IsWrongRelease before start segment release.now) }
     ensures known { (before : Option Run) (start : Space) (segment : Recording)
         → IsFollowed before start segment history.now earlier.now
         → space.now.space ≡ space_from start segment segment.log → places ≡ length segment.log
         → AreKnown start segment (left_in earlier.now) reach.now.changed overs.old
         → OnOk result (AreKnown start segment (left_in earlier.now) reach.now.changed overs.new) }
+    ensures listed { (before : Option Run) (start : Space) (segment : Recording)
+        → IsFollowed before start segment history.now earlier.now
+        → space.now.space ≡ space_from start segment segment.log → places ≡ length segment.log
+        → AreListed (IsOpen start segment (left_in earlier.now) release.now.made)
+        reach.now.lingering gone.old
+        → OnOk result (AreListed (IsOpen start segment (left_in earlier.now) release.now.made)
+        reach.now.lingering gone.new) }
 {
     if !release.is_done {
         return Ok(true);
     }
     pages_are_a_space(space);
     event_fits(release.made);
-    if leads_by_index(history, earlier, space, places, &reach.quiet, release) {
+    let by_index = leads_by_index(
+        history,
+        earlier,
+        space,
+        places,
+        &reach.quiet,
+        &reach.lingering,
+        gone,
+        release,
+    )?;
+    if by_index {
         return Ok(true);
     }
     let by_changes = leads_by_changes(
@@ -90,7 +116,22 @@ fn is_wrong(
     Ok(by_changes)
 }
 
-/// The index of the first wrong release, or `None`. Allocates memory for what releases are compared with in vain.
+/// What is gone at a release: what was gone at the last one, at this event, where that doesn't come later; or else nothing.
+fn gone_at(alloc: Global, gone: Overs, last: u32, release: &Release) -> Overs
+    ensures { (start : Space) (segment : Recording) (earlier : List PlacedRow)
+        (lingering : LingeringRow) (first : OversRow)
+        → AreListed (IsOpen start segment earlier 0) lingering first
+        → AreListed (IsOpen start segment earlier last) lingering gone
+        → AreListed (IsOpen start segment earlier release.now.made) lingering result }
+{
+    if release.made < last {
+        return Overs::none(alloc);
+    }
+    gone
+}
+
+/// The index of the first wrong release, or `None`; and what is gone at the last one. Allocates memory for what releases are compared with in
+/// vain.
 fn first_wrong(
     alloc: Global,
     history: &History,
@@ -98,56 +139,89 @@ fn first_wrong(
     space: &PlainSpace,
     places: u32,
     reach: &Reach,
+    gone: Overs,
     releases: &[Release],
-) -> Result<Option<usize>, Memory>
+) -> Result<(Option<usize>, Overs), Memory>
     requires own { AreColumns history.now }
     requires earlier { IsLadder earlier.now }
-    requires met { IsMetBy history.now.changes.items (left_in earlier.now) space.now.space
-        places reach.now.changed }
+    requires met { IsMetBy history.now.changes.items space.now.space places reach.now.changed }
+    requires room { HasRoom reach.now.lingering }
     requires memory { AreMemory releases.now }
     ensures finds { (before : Option Run) (start : Space) (segment : Recording)
         → IsFollowed before start segment history.now earlier.now
         → space.now.space ≡ space_from start segment segment.log → places ≡ length segment.log
         → HaveQuiet history.now.changes.items space.now.space reach.now.quiet
-        → IfOk result (FindsReachable before start segment releases.now) }
+        → AreListed (IsOpen start segment (left_in earlier.now) 0) reach.now.lingering gone
+        → IfOk result (λ done. FindsReachable before start segment releases.now done.0) }
+    ensures listed { (before : Option Run) (start : Space) (segment : Recording)
+        → IsFollowed before start segment history.now earlier.now
+        → space.now.space ≡ space_from start segment segment.log → places ≡ length segment.log
+        → AreListed (IsOpen start segment (left_in earlier.now) 0) reach.now.lingering gone
+        → IfOk result (λ done. (event : ℕ)
+        × AreListed (IsOpen start segment (left_in earlier.now) event) reach.now.lingering done.1) }
     ensures within { IfOk result
-        (λ found. IfSome found (λ index. index < length releases.now)) }
+        (λ done. IfSome done.0 (λ index. index < length releases.now)) }
 {
     let mut overs = Overs::none(alloc);
+    let mut gone = gone;
+    let mut last = 0;
     for (index, release) in releases.iter().enumerate() {
-        let wrong = is_wrong(history, earlier, space, places, reach, &mut overs, release)?;
+        gone = gone_at(alloc, gone, last, release);
+        last = release.made;
+        let wrong = is_wrong(
+            history, earlier, space, places, reach, &mut overs, &mut gone, release,
+        )?;
         if wrong {
-            return Ok(Some(index));
+            return Ok((Some(index), gone));
         }
     }
-    Ok(None)
+    Ok((None, gone))
 }
 
-/// The index; where none was built yet, one of the pages of the space. Allocates four rows for each page where it builds one.
-fn built(alloc: Global, index: Option<Index>, space: &PlainSpace) -> Result<Index, Memory>
+/// The indexes; where none were built yet, those of the pages of the space, and of those that these changes leave. Allocates four rows for
+/// each page where it builds them.
+fn built(
+    alloc: Global,
+    index: Option<Indexes>,
+    left: &[Left],
+    space: &PlainSpace,
+) -> Result<Indexes, Memory>
+    requires { AreSound left.now }
     ensures kept { IfSome index (λ index. IfOk result (λ built. built ≡ index)) }
-    ensures new { index ≡ None → IfOk result (λ built. HasPages built space.now.space) }
+    ensures new { index ≡ None → IfOk result (λ built. HasPages built.pages space.now.space
+        × AreListed (IsLeft left.now) built.lingering built.gone × HasRoom built.lingering) }
 {
     match index {
         Some(index) => Ok(index),
-        None => Index::of(alloc, space),
+        None => {
+            let pages = Index::of(alloc, space)?;
+            let indexes = with_listed(alloc, pages, left)?;
+            Ok(indexes)
+        }
     }
 }
 
-/// The index; where none was built yet, one of the pages of the space after a segment. The rows of the pages that the changes of the
-/// segment are of are taken away. Allocates what `built` does.
+/// The indexes; where none were built yet, those of the space after a segment, and of what was left before it. The rows of the pages that
+/// the changes of the segment are of are taken away. Allocates what `built` does.
 fn quiet_of(
     alloc: Global,
-    index: Option<Index>,
+    index: Option<Indexes>,
+    left: &[Left],
     changes: &[PlacedChange],
     space: &PlainSpace,
-) -> Result<Index, Memory>
-    ensures { (start : Space) → IfSome index (λ index. HasPages index start)
+) -> Result<Indexes, Memory>
+    requires { AreSound left.now }
+    ensures quiet { (start : Space) → IfSome index (λ index. HasPages index.pages start)
         → HasStayed changes.now start space.now.space
-        → IfOk result (HaveQuiet changes.now space.now.space) }
+        → IfOk result (λ index. HaveQuiet changes.now space.now.space index.pages) }
+    ensures listed { IfSome index
+        (λ index. AreListed (IsLeft left.now) index.lingering index.gone)
+        → IfOk result (λ index. AreListed (IsLeft left.now) index.lingering index.gone) }
+    ensures room { IfSome index (λ index. HasRoom index.lingering)
+        → IfOk result (λ index. HasRoom index.lingering) }
 {
-    let mut quiet = built(alloc, index, space)?;
-    quiet.forget_all(changes);
+    let mut quiet = built(alloc, index, left, space)?;
+    quiet.pages.forget_all(changes);
     Ok(quiet)
 }
 
@@ -162,71 +236,120 @@ fn noted(quiet: Index, present: &[Page]) -> Result<Index, Memory>
     Ok(index)
 }
 
-/// The index of the pages before a segment, if there is one, as that of the pages after it.
+/// The indexes before a segment, if there are any, with the pages after it.
 fn index_after(
     alloc: Global,
-    index: Option<Index>,
+    index: Option<Indexes>,
+    left: &[Left],
     changes: &[PlacedChange],
     space: &PlainSpace,
-) -> Result<Option<Index>, Memory>
-    ensures { (start : Space) → IfSome index (λ index. HasPages index start)
+) -> Result<Option<Indexes>, Memory>
+    requires { AreSound left.now }
+    ensures pages { (start : Space) → IfSome index (λ index. HasPages index.pages start)
         → HasStayed changes.now start space.now.space
-        → IfOk result (λ after. IfSome after (λ index. HasPages index space.now.space)) }
+        → IfOk result (λ after. IfSome after (λ index. HasPages index.pages space.now.space)) }
+    ensures listed { IfSome index
+        (λ index. AreListed (IsLeft left.now) index.lingering index.gone) → IfOk result (λ after.
+        IfSome after (λ index. AreListed (IsLeft left.now) index.lingering index.gone)) }
+    ensures room { IfSome index (λ index. HasRoom index.lingering)
+        → IfOk result (λ after. IfSome after (λ index. HasRoom index.lingering)) }
 {
     if index.is_none() {
         return Ok(None);
     }
     let present = changed_now(alloc, changes, space)?;
-    let quiet = quiet_of(alloc, index, changes, space)?;
-    let index = noted(quiet, &present)?;
-    Ok(Some(index))
+    let quiet = quiet_of(alloc, index, left, changes, space)?;
+    let Indexes {
+        pages,
+        lingering,
+        gone,
+    } = quiet;
+    let pages = noted(pages, &present)?;
+    Ok(Some(Indexes {
+        pages,
+        lingering,
+        gone,
+    }))
 }
 
-/// The index of the first wrong release, or `None`; and the index of the pages after the segment.
+/// The index of the first wrong release, or `None`; and the indexes with the pages after the segment, but without what its own changes
+/// leave.
 ///
-/// Where there are no releases, nothing is built for them, and an index that was built before is kept up to date. Allocates four rows for
-/// each page of the space where there is no index yet, and for each page that the segment changed; and 344 bytes for each change of the
-/// segment and of what was left before it, and for each page that the segment changed; and at most four rows of 48 bytes
-/// for each release.
+/// Where there are no releases, nothing is built for them, and indexes that were built before are kept up to date. Allocates four rows for
+/// each page of the space, and for each change that was left, where there are no indexes yet; and for each page that the segment changed; and
+/// 344 bytes for each change of the segment, and for each page that it changed; and at most eight rows of 48 bytes for each release.
 pub(crate) fn first_reachable(
     alloc: Global,
     history: &History,
     earlier: &[History],
+    left: &[Left],
     space: &PlainSpace,
     places: u32,
-    index: Option<Index>,
+    index: Option<Indexes>,
     releases: &[Release],
-) -> Result<(Option<usize>, Option<Index>), Memory>
+) -> Result<(Option<usize>, Option<Indexes>), Memory>
     requires own { AreColumns history.now }
     requires earlier { IsLadder earlier.now }
+    requires levels { AreLevels left.now earlier.now }
+    requires sound { AreSound left.now }
+    requires room { IfSome index (λ index. HasRoom index.lingering) }
     requires memory { AreMemory releases.now }
     ensures finds { (before : Option Run) (start : Space) (segment : Recording)
         → IsFollowed before start segment history.now earlier.now
         → space.now.space ≡ space_from start segment segment.log → places ≡ length segment.log
-        → IfSome index (λ index. HasPages index start)
+        → IfSome index (λ index. HasPages index.pages start)
+        → IfSome index (λ index. AreListed (IsLeft left.now) index.lingering index.gone)
         → HasStayed history.now.changes.items start space.now.space
         → IfOk result (λ done. FindsReachable before start segment releases.now done.0) }
-    ensures index { (start : Space) → IfSome index (λ index. HasPages index start)
+    ensures index { (start : Space) → IfSome index (λ index. HasPages index.pages start)
         → HasStayed history.now.changes.items start space.now.space
-        → IfOk result (λ done. IfSome done.1 (λ index. HasPages index space.now.space)) }
+        → IfOk result (λ done. IfSome done.1 (λ index. HasPages index.pages space.now.space)) }
+    ensures listed { (before : Option Run) (start : Space) (segment : Recording)
+        → IsFollowed before start segment history.now earlier.now
+        → space.now.space ≡ space_from start segment segment.log → places ≡ length segment.log
+        → IfSome index (λ index. AreListed (IsLeft left.now) index.lingering index.gone)
+        → IfOk result (λ done. IfSome done.1 (λ index. (event : ℕ)
+        × AreListed (IsOpen start segment (left_in earlier.now) event)
+        index.lingering index.gone)) }
+    ensures room { IfOk result (λ done. IfSome done.1 (λ index. HasRoom index.lingering)) }
     ensures within { IfOk result
         (λ done. IfSome done.0 (λ index. index < length releases.now)) }
 {
     let changes: &[PlacedChange] = &history.changes;
     let many = releases.len();
     if many == 0 {
-        let index = index_after(alloc, index, changes, space)?;
+        let index = index_after(alloc, index, left, changes, space)?;
         return Ok((None, index));
     }
     pages_are_a_space(space);
     let present = changed_now(alloc, changes, space)?;
-    let quiet = quiet_of(alloc, index, changes, space)?;
-    let changed = Changed::of(alloc, history, earlier, &present, places)?;
-    let reach = Reach { quiet, changed };
-    let found = first_wrong(alloc, history, earlier, space, places, &reach, releases)?;
-    let Reach { quiet, .. } = reach;
-    let index = noted(quiet, &present)?;
-    Ok((found, Some(index)))
+    let begun = quiet_of(alloc, index, left, changes, space)?;
+    let Indexes {
+        pages,
+        lingering,
+        gone,
+    } = begun;
+    let changed = Changed::of(alloc, history, &present, places)?;
+    let reach = Reach {
+        quiet: pages,
+        changed,
+        lingering,
+    };
+    let (found, gone) = first_wrong(
+        alloc, history, earlier, space, places, &reach, gone, releases,
+    )?;
+    let Reach {
+        quiet,
+        lingering,
+        ..
+    } = reach;
+    let pages = noted(quiet, &present)?;
+    let index = Some(Indexes {
+        pages,
+        lingering,
+        gone,
+    });
+    Ok((found, index))
 }
 
 // ---- where a release could be reached

@@ -1,6 +1,6 @@
 //! The pages that a touch of a segment may find: those that are there at its end, and those before its changes and the ones left before it.
 
-ghost use Rattle.std.specs.Prelude.{◌≡◌, ◌++◌, map, Contains, IfOk};
+ghost use Rattle.std.specs.Prelude.{◌≡◌, ◌++◌, [], map, Contains, IfOk};
 ghost use Rattle.vs_types.specs.declared.page.Page.{Page as PageRow};
 ghost use Rattle.nr_touch.specs.inside.Columns.{AreColumns};
 ghost use Rattle.nr_touch.specs.inside.Reached.{seen_before, seen_left, seen_now, AreSeen, IsRoomy};
@@ -98,9 +98,26 @@ fn joined(seen: Vec<Seen>, more: &[Seen]) -> Result<Vec<Seen>, Memory>
     Ok(seen)
 }
 
-/// Of so many pages that are there after the log of a segment, which has so many places, and of those before its changes and the ones
-/// left before it: each that a touch may find. Allocates 32 bytes for each of them; and as many again, which are freed, for each that a
-/// change is of.
+/// Of so many pages that are there after the log of a segment, which has so many places, and of those before its changes: each that a touch
+/// may find by the segment alone. Allocates 32 bytes for each of them; and as many again, which are freed, for each that a change is of.
+pub(crate) fn seen_in(
+    alloc: Global,
+    history: &History,
+    present: &[Page],
+    places: u32,
+) -> Result<Vec<Seen>, Memory>
+    requires own { AreColumns history.now }
+    requires roomy { (page : PageRow) → Contains present.now page → IsRoomy page }
+    ensures { IfOk result (λ seen. AreSeen history.now.changes.items [] present.now places
+        seen.items) }
+{
+    let now = all_now(alloc, present, places)?;
+    let before = all_before(alloc, &history.changes)?;
+    let seen = joined(now, &before)?;
+    Ok(seen)
+}
+
+/// The same, and those that earlier segments left. Allocates as much again for each of these.
 pub(crate) fn seen_of(
     alloc: Global,
     history: &History,
@@ -114,9 +131,7 @@ pub(crate) fn seen_of(
     ensures { IfOk result (λ seen. AreSeen history.now.changes.items (left_in earlier.now)
         present.now places seen.items) }
 {
-    let now = all_now(alloc, present, places)?;
-    let before = all_before(alloc, &history.changes)?;
-    let own = joined(now, &before)?;
+    let own = seen_in(alloc, history, present, places)?;
     let left = all_left(alloc, earlier)?;
     let seen = joined(own, &left)?;
     Ok(seen)

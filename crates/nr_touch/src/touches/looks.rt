@@ -4,9 +4,8 @@ ghost use Rattle.std.specs.Prelude.{◌≡◌, ◌↔◌, ◌∷◌, ℕ, revers
 ghost use Rattle.vs_types.specs.Page.{covers};
 ghost use Rattle.nr_joined.specs.Run.{Run, end_of};
 ghost use Rattle.nr_touch.specs.Looks.{is_ended, looks_left, AreLooksLeft};
-ghost use Rattle.nr_touch.specs.Tails.{AreSound, IsSoundLeft, IsTailOf, IsTailOfRun};
+ghost use Rattle.nr_touch.specs.Tails.{AreSound, HasIndexes, IsSoundLeft, IsTailOf, IsTailOfRun};
 ghost use Rattle.nr_touch.specs.inside.Changes.{page_before};
-ghost use Rattle.nr_touch.specs.inside.Indexed.{HasPages};
 ghost use Rattle.nr_touch.specs.inside.Lefts.{AreEndedBy};
 ghost use Rattle.nr_touch.specs.declared.touches.tail.Left.{Left as LeftRow};
 
@@ -100,7 +99,7 @@ fn looks_of(alloc: Global, changes: &[Left], address: u64) -> Result<Vec<Answer>
 }
 
 impl Tail {
-    /// The same once more, but without the columns and the index of the pages: no segment goes on behind the copy. Allocates memory for
+    /// The same once more, but without the columns and the indexes of the pages: no segment goes on behind the copy. Allocates memory for
     /// the changes.
     ///
     /// # Errors
@@ -111,7 +110,7 @@ impl Tail {
             (λ copy. copy.changes.items ≡ self.now.changes.items) }
         ensures tail { (before : Option Run) → IsTailOf before self.now
             → IfOk result (IsTailOf before) }
-        ensures back { (run : Run) → IfSome self.now.index (λ index. HasPages index (end_of run))
+        ensures back { (run : Run) → HasIndexes self.now (end_of run)
             → IfOk result (λ copy. IsTailOfRun run copy → IsTailOfRun run self.now) }
     {
         let changes = Vec::from_slice(alloc, &self.changes)?;

@@ -24,6 +24,7 @@ use crate::changes::change::{Change, PlacedChange};
 use crate::changes::history::History;
 use crate::changes::replay::replay;
 use crate::changes::undo::undo_all;
+use crate::releases::lingering::indexes_after;
 use crate::releases::reaching::first_reachable;
 use crate::releases::release::Release;
 use crate::touches::between::is_answered_between;
@@ -276,11 +277,12 @@ pub struct Followed {
 ///
 /// The touches and the releases lie in the segment, whose space begins with this start. Of a segment whose log isn't clean nothing is said
 /// but that the start comes back. It takes time for the events, the log, the touches, the releases and what of the tail is merged with the
-/// changes, or all of it where there are releases; and not for the pages of the start: the updates of the log are done on it, and then
-/// undone. Only the first segment with releases lists all pages, in an index that the tail keeps from then on: four rows of 16 bytes for
-/// each page. Allocates a table of four bytes for each event, 160 bytes for each update that changes the space, and 216 bytes for each
-/// change of the tail that is merged; where there are releases at most 344 bytes more for each change of the segment and of the tail, and
-/// for each page that they changed, and four rows of 48 bytes for each release.
+/// changes; and not for the pages of the start: the updates of the log are done on it, and then undone. Only the first segment with
+/// releases lists all pages, and those that the tail leaves to be found, in indexes that the tail keeps from then on: four rows of 16 bytes
+/// for each page, and 32 bytes more for one that the tail leaves. Allocates a table of four bytes for each event, 160 bytes for each update
+/// that changes the space, and 216 bytes for each change of the tail that is merged; where there are releases at most 344 bytes more for
+/// each change of the segment, and for each page that it changed, and eight rows of 48 bytes for each release, of which the tail keeps
+/// half until it lists its pages again.
 ///
 /// # Errors
 ///
@@ -325,9 +327,10 @@ pub fn follow(
     let history = History::of(alloc, own)?;
     let stale = first_of(&history, &levels, &space, places, touches);
     let (reachable, index) = first_reachable(
-        alloc, &history, &levels, &space, places, index, releases,
+        alloc, &history, &levels, &changes, &space, places, index, releases,
     )?;
     let (changes, levels) = left_after(alloc, changes, levels, &lefts)?;
+    let index = indexes_after(alloc, index, &changes, &lefts)?;
     let start = undo_all(space, &done)?;
     Ok(Followed {
         stale,

@@ -13,7 +13,7 @@ ghost use Rattle.nr_touch.specs.inside.Levels.{left_of, placed_at, AreLevels, Ar
 
 use crate::changes::change::{Change, PlacedChange};
 use crate::changes::history::{History, number_at};
-use crate::releases::index::Index;
+use crate::releases::lingering::Indexes;
 use std::alloc::Global;
 use std::collections::BTreeSet;
 use vs_types::{Memory, Size};
@@ -27,16 +27,16 @@ pub(crate) struct Left {
 }
 
 /// Behind some segments, how addresses may still be found to look: the changes, in the order of the log, before which their addresses may
-/// still be found to look as they did, and those behind them that end this. Once a segment has had releases, it also has an index of the
-/// pages of the space, by the memory that they lead into.
+/// still be found to look as they did, and those behind them that end this. Once a segment has had releases, it also has indexes of the
+/// pages of the space, and of those that addresses may still be found to look as, by the memory that they lead into.
 #[derive(Debug, Drop)]
 pub struct Tail {
     pub(crate) changes: Vec<Left>,
     /// The columns of these changes, the oldest first. A level has more rows than all later ones together, but for those that are merged
     /// next.
     pub(crate) levels: Vec<History>,
-    /// The pages that are there now, by the memory that they lead into: from the first segment with releases on.
-    pub(crate) index: Option<Index>,
+    /// The pages that a release is compared with, by the memory that they lead into: from the first segment with releases on.
+    pub(crate) index: Option<Indexes>,
 }
 
 impl Tail {
@@ -182,7 +182,7 @@ fn is_hidden(history: &History, left: &Left, place: u32) -> bool
 }
 
 /// Whether a change ends itself that its addresses are found to look as before it.
-fn ends_itself(left: &Left) -> bool
+pub(crate) fn ends_itself(left: &Left) -> bool
     ensures { result ≡ ends_look left.now (page_before left.now.change) }
 {
     if left.change.was_mapped {

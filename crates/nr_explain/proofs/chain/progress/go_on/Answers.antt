@@ -2,7 +2,7 @@ use Rattle.std.proofs.Common.{◌≡◌, ◌∙◌, Some, ap, subst, sym}
 use Rattle.std.specs.Prelude.{IfSome}
 use Rattle.vs_types.specs.Space.{Space}
 use Rattle.vs_plain.specs.Plain.{BoundedSpace}
-use Rattle.nr_touch.specs.inside.Indexed.{HasPages}
+use Rattle.nr_touch.specs.Tails.{HasIndexes}
 use Rattle.nr_audit.specs.Start.{first_space}
 use Rattle.nr_explain.specs.inside.Reading.{all_states, space_seen, sums_seen}
 use Rattle.nr_explain.proofs.GoneOn.{same_end, summed}
@@ -28,9 +28,7 @@ returns-clause-twice c =
       left = sym c.in_ok-left.ensures.changes;
       tail = λ run ends of_run.
           c.in_ok-left.ensures.back run
-          (subst (λ (s : Space). IfSome c.args.after.tail.index (λ index. HasPages index s)) (ap (λ (s : BoundedSpace). s.space) (sym same) ∙ ends)
-          c.requires.index)
-          of_run;
+          (subst (HasIndexes c.args.after.tail) (ap (λ (s : BoundedSpace). s.space) (sym same) ∙ ends) c.requires.index) of_run;
       sound = c.requires.sound;
     }
 

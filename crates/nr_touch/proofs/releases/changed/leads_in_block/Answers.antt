@@ -1,6 +1,7 @@
 use Rattle.std.proofs.Common.{sym, ◌∙◌}
 use Rattle.std.proofs.lemmas.Bool.{false≢true}
 use Rattle.nr_touch.specs.inside.Levels.{left_in}
+use Rattle.nr_touch.proofs.OverRows.{known_more}
 use Rattle.nr_touch.proofs.releases.changed.leads_in_block.Goals as goal
 
 pub returns-then-leads-clause-sound : goal.returns-then-leads-clause-sound
@@ -20,5 +21,6 @@ returns-clause-whole c = λ run start segment stay followed are places known has
 pub returns-clause-known : goal.returns-clause-known
 returns-clause-known c = λ run start segment followed are places known.
     let earlier = left_in c.args.earlier.now in
-    c.in_ok-note.ensures start segment earlier c.args.changed.now known (c.leads_in_rows-leads.ensures.over run start segment followed are places
+    known_more start segment earlier c.args.changed.now c.args.overs.now c.note.new.self c.args.release.now c.args.block _ c.in_ok-note.ensures known
+    (c.leads_in_rows-leads.ensures.over run start segment followed are places
     (c.rows-before.ensures start segment earlier c.args.changed.now known) c.if-leads.false)

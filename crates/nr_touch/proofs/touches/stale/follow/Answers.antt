@@ -1,4 +1,4 @@
-use Rattle.std.proofs.Common.{◌≡◌, ◌<◌, List, Option, length, map, refl, sym, ap, ◌∙◌, subst, arith}
+use Rattle.std.proofs.Common.{◌≡◌, ◌<◌, List, ◌++◌, Option, IfSome, length, map, refl, sym, ap, ◌∙◌, subst, arith}
 use Rattle.std.specs.List.Sorted.{IsPermutation}
 use Rattle.std.proofs.lemmas.List.Sorted.{Contains-permutation}
 use Rattle.vs_types.specs.Space.{Space}
@@ -12,13 +12,17 @@ use Rattle.nr_touch.specs.declared.changes.change.PlacedChange.{PlacedChange}
 use Rattle.nr_touch.specs.inside.Changes.{AreChanges}
 use Rattle.nr_touch.specs.inside.Earlier.{AreOfRun, IsFollowed}
 use Rattle.nr_touch.specs.inside.Levels.{left_in, AreLevels, IsLadder}
-use Rattle.nr_touch.specs.Tails.{GoesOn, IsTailOf}
-use Rattle.nr_touch.specs.inside.Indexed.{HasStayed}
+use Rattle.nr_touch.specs.Tails.{GoesOn, HasIndexes, IsLeft, IsTailOf}
+use Rattle.nr_touch.specs.inside.Indexed.{HasPages, HasStayed}
+use Rattle.nr_touch.specs.inside.Lefts.{left_of, KeepLooks}
+use Rattle.nr_touch.specs.inside.Listed.{AreListed}
 use Rattle.nr_touch.specs.declared.changes.history.History.{History}
+use Rattle.nr_touch.specs.declared.touches.tail.Left.{Left}
 use Rattle.nr_touch.specs.declared.touches.tail.Tail.{Tail}
 use Rattle.nr_touch.specs.inside.Undo.{LeadsTo}
 use Rattle.nr_touch.proofs.IndexedPages.{still_there}
 use Rattle.nr_touch.proofs.cuts.Levels.{ladder, levels_permuted}
+use Rattle.nr_touch.proofs.cuts.Listed.{if_both, indexes_left, listed_of, pages_of}
 use Rattle.nr_touch.proofs.cuts.Tails.{index_of_tail, of_run, tail_with}
 use Rattle.nr_touch.proofs.cuts.Thinned.{sound_lefts}
 use Rattle.nr_touch.proofs.Sighted.{map_contains}
@@ -40,16 +44,33 @@ first_of-stale-requires-clause-earlier c = subst IsLadder (sym c.deref-3.ensures
 pub first_reachable-requires-clause-earlier : goal.first_reachable-requires-clause-earlier
 first_reachable-requires-clause-earlier c = subst IsLadder (sym c.deref-4.ensures.value) (ladder c.args.tail.changes.items c.args.tail.levels.items c.requires.sound.1)
 
+pub first_reachable-requires-clause-levels : goal.first_reachable-requires-clause-levels
+first_reachable-requires-clause-levels c = rw (c.deref-4.ensures.value, c.deref-5.ensures.value) c.requires.sound.1
+
+pub first_reachable-requires-clause-sound : goal.first_reachable-requires-clause-sound
+first_reachable-requires-clause-sound c = rw c.deref-5.ensures.value c.requires.sound.0
+
+pub first_reachable-requires-clause-room : goal.first_reachable-requires-clause-room
+first_reachable-requires-clause-room c = c.requires.sound.2
+
+pub indexes_after-requires-clause-changes : goal.indexes_after-requires-clause-changes
+indexes_after-requires-clause-changes c = rw c.deref-7.ensures.value c.in_ok-changes.ensures.sound.each
+
+pub indexes_after-requires-clause-own : goal.indexes_after-requires-clause-own
+indexes_after-requires-clause-own c =
+    rw (c.deref-8.ensures.value, c.in_ok-lefts.ensures, c.deref-2.ensures.value)
+    (sound_lefts c.in_ok-own.own.items c.in_ok-own.ensures.numbered)
+
 pub left_after-requires-clause-own : goal.left_after-requires-clause-own
 left_after-requires-clause-own c =
-    rw (c.deref-5.ensures.value, c.in_ok-lefts.ensures, c.deref-2.ensures.value)
+    rw (c.deref-6.ensures.value, c.in_ok-lefts.ensures, c.deref-2.ensures.value)
     (sound_lefts c.in_ok-own.own.items c.in_ok-own.ensures.numbered)
 
 pub undo_all-requires : goal.undo_all-requires
 undo_all-requires c =
-    let listed = c.deref-6.ensures.value ∙ c.in_ok-done.ensures ∙ ap (map (λ (each : PlacedChange). each.change)) c.deref.ensures.value in (
+    let listed = c.deref-9.ensures.value ∙ c.in_ok-done.ensures ∙ ap (map (λ (each : PlacedChange). each.change)) c.deref.ensures.value in (
       c.args.start.space,
-      led c.args.start.depth c.in_ok-own.space.depth c.args.start.space c.in_ok-own.own.items c.deref-6.result.now
+      led c.args.start.depth c.in_ok-own.space.depth c.args.start.space c.in_ok-own.own.items c.deref-9.result.now
           c.in_ok-own.space.space c.in_ok-own.ensures.depth listed c.in_ok-own.ensures.leads,
     )
 
@@ -88,7 +109,9 @@ returns-clause-reaches c = λ run of_tail goes_on clean.
     (followed_by run c.args.start.space c.args.segment.now c.args.tail c.in_ok-own.own.items c.in_ok-history.history c.deref-4.result.now clean
     (c.in_ok-own.ensures.changes clean) c.in_ok-history.ensures.same c.requires.sound.1 c.deref-4.ensures.value of_tail goes_on)
     (c.in_ok-own.ensures.space clean) (ap length c.log.ensures.reads)
-    (index_of_tail run c.args.start.space c.args.segment.now c.args.tail goes_on of_tail)
+    (pages_of c.args.tail c.args.start.space (index_of_tail run c.args.start.space c.args.segment.now c.args.tail goes_on of_tail))
+    (listed_of c.args.tail c.args.start.space c.deref-5.result.now c.deref-5.ensures.value
+    (index_of_tail run c.args.start.space c.args.segment.now c.args.tail goes_on of_tail))
     (stayed c.args.start.depth c.args.start.space c.in_ok-own.space.space c.in_ok-own.own.items c.in_ok-history.history.changes.items
     c.in_ok-history.ensures.same c.in_ok-own.ensures.leads)
 
@@ -96,24 +119,43 @@ pub returns-clause-tail : goal.returns-clause-tail
 returns-clause-tail c = λ run of_tail goes_on clean.
     let start = c.args.start.space in
     let segment = c.args.segment.now in
-    let found : Tail = record { changes = c.in_ok-changes.changes; levels = c.in_ok-changes.levels; index = c.in_ok-reachable.index } in
+    let tail = c.args.tail in
+    let own = c.in_ok-own.own.items in
+    let found : Tail = record { changes = c.in_ok-changes.changes; levels = c.in_ok-changes.levels; index = c.in_ok-index.index } in
     let few : length segment.events < 4294967295 = let most = c.log.ensures.in_range.few_events in omega (arith, most) in
-    let looks = rw (c.deref-5.ensures.value, c.in_ok-lefts.ensures, c.deref-2.ensures.value) at c.in_ok-changes.ensures.looks in
-    let indexed = rw (c.in_ok-own.ensures.space clean) at
-    (c.in_ok-reachable.ensures.index start (index_of_tail run start segment c.args.tail goes_on of_tail)
-    (stayed c.args.start.depth start c.in_ok-own.space.space c.in_ok-own.own.items c.in_ok-history.history.changes.items c.in_ok-history.ensures.same
+    let rises = c.in_ok-own.ensures.by_place in
+    let are = c.in_ok-own.ensures.changes clean in
+    let lefts : c.deref-6.result.now ≡ map left_of own = c.deref-6.ensures.value ∙ c.in_ok-lefts.ensures ∙ ap (map left_of) c.deref-2.ensures.value in
+    let then : c.deref-8.result.now ≡ map left_of own = c.deref-8.ensures.value ∙ c.in_ok-lefts.ensures ∙ ap (map left_of) c.deref-2.ensures.value in
+    let looks = subst (λ (xs : List Left). KeepLooks (tail.changes.items ++ xs) found.changes.items) lefts c.in_ok-changes.ensures.looks in
+    let has = index_of_tail run start segment tail goes_on of_tail in
+    let levels = subst (λ (ls : List History). AreLevels tail.changes.items ls) (sym c.deref-4.ensures.value) c.requires.sound.1 in
+    let followed = followed_by run start segment tail own c.in_ok-history.history c.deref-4.result.now clean are c.in_ok-history.ensures.same
+    c.requires.sound.1 c.deref-4.ensures.value of_tail goes_on in
+    let open_so = c.in_ok-reachable.ensures.listed run start segment followed (c.in_ok-own.ensures.space clean) (ap length c.log.ensures.reads)
+    (listed_of tail start c.deref-5.result.now c.deref-5.ensures.value has) in
+    let left_so = indexes_left tail.changes.items c.deref-4.result.now levels start segment own are rises few c.deref-8.result.now then
+    c.in_ok-reachable.index open_so in
+    let kept = subst (λ (xs : List Left). KeepLooks (tail.changes.items ++ c.deref-8.result.now) xs) (sym c.deref-7.ensures.value)
+    (subst (λ (xs : List Left). KeepLooks (tail.changes.items ++ xs) found.changes.items) (sym then) looks) in
+    let listed = subst (λ (xs : List Left). IfSome c.in_ok-index.index (λ i. AreListed (IsLeft xs) i.lingering i.gone)) c.deref-7.ensures.value
+    (c.in_ok-index.ensures.listed tail.changes.items kept left_so) in
+    let pages = c.in_ok-index.ensures.pages c.in_ok-own.space.space (c.in_ok-reachable.ensures.index start (pages_of tail start has)
+    (stayed c.args.start.depth start c.in_ok-own.space.space own c.in_ok-history.history.changes.items c.in_ok-history.ensures.same
     c.in_ok-own.ensures.leads)) in
-    tail_with start segment (clean_is_orderly segment clean) c.in_ok-own.own.items (c.in_ok-own.ensures.changes clean)
-    c.in_ok-own.ensures.by_place few run c.args.tail found indexed of_tail goes_on looks
+    let indexed = subst (HasIndexes found) (c.in_ok-own.ensures.space clean)
+    (if_both (λ i. HasPages i.pages c.in_ok-own.space.space) (λ i. AreListed (IsLeft found.changes.items) i.lingering i.gone) c.in_ok-index.index pages listed) in
+    tail_with start segment (clean_is_orderly segment clean) own are rises few run tail found indexed of_tail goes_on looks
 
 pub returns-clause-start : goal.returns-clause-start
 returns-clause-start c =
     let start = c.args.start in
     let space = c.in_ok-own.space in
-    let listed = c.deref-6.ensures.value ∙ c.in_ok-done.ensures ∙ ap (map (λ (each : PlacedChange). each.change)) c.deref.ensures.value in
-    c.in_ok-start.ensures start.space (led start.depth space.depth start.space c.in_ok-own.own.items c.deref-6.result.now space.space
+    let listed = c.deref-9.ensures.value ∙ c.in_ok-done.ensures ∙ ap (map (λ (each : PlacedChange). each.change)) c.deref.ensures.value in
+    c.in_ok-start.ensures start.space (led start.depth space.depth start.space c.in_ok-own.own.items c.deref-9.result.now space.space
     c.in_ok-own.ensures.depth listed c.in_ok-own.ensures.leads)
     ∙ same_bounded (record space { space = start.space }) start c.in_ok-own.ensures.depth c.in_ok-own.ensures.limit refl
 
 pub returns-clause-sound : goal.returns-clause-sound
-returns-clause-sound c = (c.in_ok-changes.ensures.sound, c.in_ok-changes.ensures.levels)
+returns-clause-sound c =
+    (c.in_ok-changes.ensures.sound, c.in_ok-changes.ensures.levels, c.in_ok-index.ensures.room c.in_ok-reachable.ensures.room)

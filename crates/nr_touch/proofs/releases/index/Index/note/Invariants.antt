@@ -6,6 +6,6 @@ use Rattle.nr_touch.proofs.releases.index.Index.note.Given as goal
 
 abbrev pub invariant-loop-block : goal.invariant-loop-block
 invariant-loop-block l = record {
-  own : (k : ℕ) → k < l.block-index → IsTrue (contains row_cmp l.self.rows (get_or (blocks_at l.page) k 0, l.page.base));
+  own : (k : ℕ) → k < l.block-index → IsTrue (contains row_cmp l.self.rows (get_or (blocks_at l.fn.page) k 0, l.key));
   others : (row : ℕ × ℕ) → IsTrue (contains row_cmp l.fn.self.rows row) → IsTrue (contains row_cmp l.self.rows row);
 }

@@ -10,8 +10,8 @@ loop-page-preserved c =
     let others = c.in_ok-note.ensures.others in
     record {
       own = one_further (λ (page : Page). IsIndexed c.note.new.self page) c.args.pages.now c.loop-page.page-index _ c.loop-page-test.true
-          (λ k d l. others (get_or c.args.pages.now k d) (inv.own k d l)) c.in_ok-note.ensures.own;
-      others = λ page was. others page (inv.others page was);
+          (λ k d l. others (get_or c.args.pages.now k d) (get_or c.args.pages.now k d).base (inv.own k d l)) c.in_ok-note.ensures.own;
+      others = λ page was. others page page.base (inv.others page was);
     }
 
 pub returns-clause-own : goal.returns-clause-own

@@ -9,7 +9,7 @@ use Rattle.nr_touch.proofs.releases.index.Index.of.Goals as goal
 
 pub loop-page-preserved : goal.loop-page-preserved
 loop-page-preserved c = one_more (λ (page : Page). IsIndexed c.note.new.self page) c.loop-page.yielded c.in-Some.page
-    (λ page has. c.in_ok-note.ensures.others page (c.loop-page.invariant page has)) c.in_ok-note.ensures.own
+    (λ page has. c.in_ok-note.ensures.others page page.base (c.loop-page.invariant page has)) c.in_ok-note.ensures.own
 
 pub returns : goal.returns
 returns c = λ page holds.

@@ -1,27 +1,19 @@
-use Rattle.std.proofs.Common.{◌≡◌, ℕ, Bool, true, false, cond, List, Option, Some, sym, ◌∙◌, subst}
+use Rattle.std.proofs.Common.{◌≡◌, ◌⊎◌, inl, inr, Bool, true, false, cond, Option, Some, sym, ap, ◌∙◌}
 use Rattle.std.specs.BTreeMap.{get, is_at}
 use Rattle.std.proofs.lemmas.Option.{same_Some}
-use Rattle.vs_types.specs.Space.{Space}
-use Rattle.nr_trace.specs.Recording.{Recording}
 use Rattle.nr_touch.specs.inside.Indexed.{row_cmp}
-use Rattle.nr_touch.specs.inside.Overs.{AreKnown, AreOver}
-use Rattle.nr_touch.specs.declared.changes.change.PlacedChange.{PlacedChange}
-use Rattle.nr_touch.specs.declared.releases.changed.Changed.{Changed}
 use Rattle.nr_touch.specs.declared.releases.overs.Over.{Over}
-use Rattle.nr_touch.specs.declared.releases.overs.Overs.{Overs}
 use Rattle.nr_touch.proofs.releases.overs.Overs.note.Goals as goal
 
--- what was noted, with one row more
-noted : (start : Space) (segment : Recording) (earlier : List PlacedChange) (changed : Changed) (old : Overs) (over it : Over) (key : ℕ × ℕ)
-    (after : Option Over) (here : Bool) → after ≡ cond here (Some over) (get row_cmp old.known key) → after ≡ Some it
-    → AreKnown start segment earlier changed old → AreOver start segment earlier changed over.release over.block 0 over.rows
-    → AreOver start segment earlier changed it.release it.block 0 it.rows
-noted start segment earlier changed old over it key after true e at known now =
-    subst (λ (o : Over). AreOver start segment earlier changed o.release o.block 0 o.rows) (same_Some over it (sym e ∙ at)) now
-noted start segment earlier changed old over it key after false e at known now = known key it (sym e ∙ at)
+-- what was noted, or the row more
+noted : (over it : Over) (was after : Option Over) (here : Bool) → after ≡ cond here (Some over) was → after ≡ Some it
+    → (was ≡ Some it) ⊎ ((it.release ≡ over.release) × (it.block ≡ over.block) × (it.rows ≡ over.rows))
+noted over it was after true e at =
+    let same = same_Some it over (sym at ∙ e) in
+    inr (ap (λ (o : Over). o.release) same, ap (λ (o : Over). o.block) same, ap (λ (o : Over). o.rows) same)
+noted over it was after false e at = inl (sym e ∙ at)
 
 pub returns : goal.returns
-returns c = λ start segment earlier changed known now key it at.
-    noted start segment earlier changed c.args.self.now
-    (record { release = c.args.release.now; block = c.args.block; rows = c.args.rows }) it key _
-    (is_at (row_cmp (c.memory_of.result, c.args.block)) key) (c.in_ok-insert.ensures.updates.0 key) at known now
+returns c = λ key it at.
+    noted (record { release = c.args.release.now; block = c.args.block; rows = c.args.rows }) it (get row_cmp c.args.self.now.known key) _
+    (is_at (row_cmp (c.memory_of.result, c.args.block)) key) (c.in_ok-insert.ensures.updates.0 key) at

@@ -1,21 +1,20 @@
-use Rattle.std.proofs.Common.{◌≡◌, ◌∙◌, ◌↔◌, ℕ, List, Option, Some, None, IfSome, refl, sym, subst}
+use Rattle.std.proofs.Common.{◌≡◌, ◌∙◌, ◌↔◌, ℕ, List, Option, Some, None, refl, sym, subst}
 use Rattle.vs_types.specs.declared.page.Page.{Page}
 use Rattle.nr_joined.specs.Run.{Run, end_of}
-use Rattle.nr_touch.specs.Tails.{IsLeft, IsTailOf, Lingers}
-use Rattle.nr_touch.specs.inside.Indexed.{HasPages}
-use Rattle.nr_touch.specs.declared.releases.index.Index.{Index}
+use Rattle.nr_touch.specs.Tails.{HasIndexes, IsLeft, IsTailOf, Lingers}
 use Rattle.nr_touch.specs.declared.touches.tail.Left.{Left}
 use Rattle.nr_touch.specs.declared.touches.tail.Tail.{Tail}
+use Rattle.nr_touch.proofs.cuts.Tails.{no_indexes}
 use Rattle.nr_touch.proofs.touches.tail.Tail.copy.Goals as goal
 
 -- the index, if there is one, has the pages of the run's space; before a first segment there is none
 abbrev HasIndexOf : Option Run → Tail → Type 0
 HasIndexOf None tail = tail.index ≡ None
-HasIndexOf (Some run) tail = IfSome tail.index (λ i. HasPages i (end_of run))
+HasIndexOf (Some run) tail = HasIndexes tail (end_of run)
 
 no_index : (before : Option Run) (tail : Tail) → tail.index ≡ None → HasIndexOf before tail
 no_index None tail none = none
-no_index (Some run) tail none = subst (λ (index : Option Index). IfSome index (λ i. HasPages i (end_of run))) (sym none) tt
+no_index (Some run) tail none = no_indexes tail (end_of run) none
 
 -- what has the same changes is left by the same run
 same_tail : (before : Option Run) (one other : Tail) → other.changes.items ≡ one.changes.items → HasIndexOf before other → IsTailOf before one

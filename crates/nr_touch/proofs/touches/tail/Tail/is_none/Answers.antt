@@ -2,12 +2,12 @@ use Rattle.std.proofs.Common.{◌≡◌, ◌↔◌, Bool, true, false, not, is_s
 use Rattle.std.proofs.lemmas.Bool.{eqb-true, false≢true}
 use Rattle.std.proofs.lemmas.Bool.Decides.{Decides-like}
 use Rattle.std.proofs.lemmas.List.{nil_from_length}
-use Rattle.nr_touch.specs.declared.releases.index.Index.{Index}
+use Rattle.nr_touch.specs.declared.releases.lingering.Indexes.{Indexes}
 use Rattle.nr_touch.proofs.Tests.{no}
 use Rattle.nr_touch.proofs.touches.tail.Tail.is_none.Goals as goal
 
 -- whether an index is there
-is_gone : (index : Option Index) (none : Bool) → is_some index ≡ not none → IsTrue none ↔ (index ≡ None)
+is_gone : (index : Option Indexes) (none : Bool) → is_some index ≡ not none → IsTrue none ↔ (index ≡ None)
 is_gone None true says = (λ t. refl, λ gone. refl)
 is_gone None false says = absurd (false≢true says)
 is_gone (Some index) true says = absurd (false≢true (sym says))

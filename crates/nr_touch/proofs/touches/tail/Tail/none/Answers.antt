@@ -10,4 +10,5 @@ returns-clause-sound c = (
     each = λ left has. absurd (not_in_nil left (rw c.new.ensures.items at has));
   },
   rw (c.new.ensures.items, c.new-2.ensures.items) no_levels,
+  tt,
 )

@@ -7,7 +7,7 @@ use Rattle.nr_touch.proofs.IndexedPages.{roomy_page}
 use Rattle.nr_touch.proofs.IndexRows.{one_more, row_found}
 use Rattle.nr_touch.proofs.QuietRows.{none_begins, none_leads, NoneFrom}
 use Rattle.nr_touch.proofs.Sighted.{map_contains}
-use Rattle.nr_touch.proofs.releases.quiet.leads_in_block.Goals as goal
+use Rattle.nr_touch.proofs.releases.quiet.leads_in_pages.Goals as goal
 
 pub loop-row-preserved-else-leads_there : goal.loop-row-preserved-else-leads_there
 loop-row-preserved-else-leads_there c =
@@ -35,8 +35,8 @@ returns-clause-whole c = λ before start segment page followed are many holds in
     let room = (roomy_page c.pages_are_a_space.ensures page holds).ends in
     let some = bytes_positive page.size in
     let there : Contains found (block, page.base) =
-    row_found c.args.index.now.rows found c.new.result.start c.new.result.end block page.base 18446744073709551615 c.new.ensures.start c.new.ensures.end
-    (c.range-row-items.ensures.between c.new.ensures.exhausted) (omega (arith, room, some)) (indexed block of) in
+    row_found c.args.index.now.rows found c.new.result.start c.new.result.end block 0 page.base 18446744073709551615 c.new.ensures.start c.new.ensures.end
+    (c.range-row-items.ensures.between c.new.ensures.exhausted) (omega arith) (omega (arith, room, some)) (indexed block of) in
     let all = iter_end deref found c.loop-row.yielded _ _ _ _ c.into_iter-row-iterator.ensures.into_iter_gives c.loop-row.yielded_by c.in-None.is
     c.next.ensures.steps in
     let (row, has, same) = map_contains deref c.loop-row.yielded (block, page.base)
