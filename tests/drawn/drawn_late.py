@@ -9,16 +9,16 @@ is tried. Nothing of the second auditor is used, which is compared with this.
                                                 named; what comes how often, and `N passed, M failed`
 """
 import collections
+import json
 import random
 import struct
 import subprocess
 import sys
-from typing import NamedTuple
 
 import recording
+from drawn_chains import RELEASE, TOUCH, Call, Reply, event_bytes
 from recording import ACCESS, ALLOWED, BYTES, DONE, FAULT, MAP, PROTECT, RESOLVE, UNMAP, Space
 
-TOUCH, RELEASE = 5, 6
 SEGMENTS, PAGES, FRAMES = 3, 6, 5
 RIGHT = ["touch at a moment", "touch at an earlier segment's moment", "touch of a table that lags", "touch by rights that were kept",
          "touch of a page behind which an update was answered", "touch of a page of an earlier segment behind which an update was answered",
@@ -32,23 +32,8 @@ REACHABLE = [f"reachable: {how}" for how in ("nobody takes the page away", "it i
                                              "it was never over before the cut, and an update behind that was answered")]
 COMMON = (RIGHT + STALE + REACHABLE + ["update that is never answered", "release without a reply"]
           + [f"{fault} in segment {k} of three" for fault in ("Stale", "Reachable") for k in range(SEGMENTS)])
+EXCUSES = "open kept lagging repeated".split()      # what is counted of right touches
 KINDS = [MAP] * 5 + [UNMAP] * 5 + [PROTECT] * 6 + [RESOLVE, ACCESS, ACCESS] + [TOUCH] * 12 + [RELEASE] * 5
-
-
-class Call(NamedTuple):
-    replica: int
-    thread: int
-    kind: int
-    address: int = 0
-    size: int = 0
-    rights: int = 0
-    physical: int = 0
-
-
-class Reply(NamedTuple):
-    call: int
-    at: int
-    answer: tuple[int, int, int, int]
 
 
 class Segment:
@@ -120,6 +105,32 @@ class Run:
             if seen[m] is None:
                 right.setdefault(self.answer(m, touch), "of a table that lags")
         return right
+
+    def excuse(self, segment, number, end):
+        """What excuses the touch, which is right and was answered by that event."""
+        touch, made, answered = segment.events[number], segment.first + number, segment.first + end
+        answer = segment.events[end].answer
+        fits = [n for n in self.allowed(touch.address, made, answered) if self.answer(n, touch) == answer]
+        if not fits:
+            return "lagging"
+        if self.foreseen(touch.address, answered) in fits:
+            return "none"
+        up_to_date = [n for n in fits if n >= segment.before and not self.is_behind(touch.address, n, made)]
+        return "kept" if answer[0] == FAULT and not up_to_date else "open"
+
+    def excuses(self):
+        """How many touches have each excuse; and the most faults of a thread at an address in one segment that are kept or lagging."""
+        counts = dict.fromkeys(("open", "kept", "lagging", "repeated", "none"), 0)
+        for segment in self.segments:
+            late = collections.Counter()
+            for number, end in segment.replies().items():
+                touch = segment.events[number]
+                if touch.kind == TOUCH:
+                    excuse = self.excuse(segment, number, end)
+                    counts[excuse] += 1
+                    late[touch.thread, touch.address] += excuse in ("kept", "lagging")
+            counts["repeated"] = max([counts["repeated"], *late.values()])
+        return counts
 
     def reason(self, address, n, made, is_earlier):
         """Why a touch is answered right from n entries."""
@@ -247,8 +258,8 @@ class Drawing:
             self.place(self.begun[thread])
 
     def burst(self):
-        """A page is unmapped or loses rights, and that is open while other updates of its address are answered; then it is touched, and its
-        memory is released."""
+        """A page is unmapped or loses rights, and that is open while other updates of its address are answered; then it is touched, perhaps
+        again and again, and its memory is released."""
         draw, run = self.draw, self.run
         free, pages = [thread for thread in range(self.threads) if thread not in self.begun], run.moments[-1].pages
         if len(free) < 2 or not pages:
@@ -270,8 +281,9 @@ class Drawing:
                 call = call._replace(address=base + draw.randrange(4096), size=draw.randrange(3), rights=draw.randrange(2))
             elif each == RELEASE:
                 call = call._replace(address=0, size=draw.choice([0, size]), physical=physical)
-            self.begin(call, False)
-            self.answer(quick)
+            for _ in range(draw.choice([1, 1, 2, 4]) if each == TOUCH else 1):
+                self.begin(call, False)
+                self.answer(quick)
 
     def begin(self, call, is_stuck):
         """Makes the call; an update that is stuck gets no answer in this segment."""
@@ -390,10 +402,7 @@ def spelled(drawing):
     for each in drawing.run.segments:
         counts = struct.pack(">BBHHIII", 4, drawing.replicas, drawing.threads, drawing.run.moments[0].limit, len(each.log), len(each.events), 0)
         parts += [b"NRVS", struct.pack(">H", 1), counts, struct.pack(f">{len(each.log)}I", *each.log)]
-        for event in each.events:
-            parts.append(recording.call(event.replica, event.thread, event.kind, event.address, event.size, event.rights, event.physical)
-                         if isinstance(event, Call) else recording.reply(event.call, event.at, *event.answer))
-        parts.append(bytes(16 * drawing.replicas))
+        parts += [*map(event_bytes, each.events), bytes(16 * drawing.replicas)]
     return b"".join(parts)
 
 
@@ -403,7 +412,7 @@ def order(segment):
 
 
 def chain(seed):
-    """The bytes of a drawn chain, the lines that are to be said of it, and what it has."""
+    """The bytes of a drawn chain, the lines that are to be said of it, what it has, and of a right one how many touches have each excuse."""
     draw = random.Random(seed)
     drawing, lines = Drawing(draw), []
     wrong = draw.choice([None, None, 0, 1, 2])
@@ -413,10 +422,14 @@ def chain(seed):
         drawing.kinds["update that is never answered"] += len(set(made.log) - made.replies().keys())
         if fault:
             drawing.kinds[f"{fault[2]} in segment {k} of three"] += 1
-            return spelled(drawing), [*lines, f"segment {k}", f"no {fault[0]} {fault[2]} {fault[1]}"], drawing.kinds
+            return spelled(drawing), [*lines, f"segment {k}", f"no {fault[0]} {fault[2]} {fault[1]}"], drawing.kinds, None
         lines += [f"segment {k}", "yes", " ".join(["order", *map(str, order(made))])]
+    excuses = drawing.run.excuses()
     drawing.kinds["right chain"] += 1
-    return spelled(drawing), [*lines, f"segments {SEGMENTS}"], drawing.kinds
+    drawing.kinds["right chain with a late fault again"] += excuses["repeated"] > 1
+    for excuse in ("open", "kept", "lagging"):
+        drawing.kinds[f"touch of a right chain, {excuse}"] += excuses[excuse]
+    return spelled(drawing), [*lines, f"segments {SEGMENTS}"], drawing.kinds, excuses
 
 
 def judges(program):
@@ -426,12 +439,24 @@ def judges(program):
         yield program, lambda data: subprocess.run([program, "audit", "--chain"], input=data, stdout=subprocess.PIPE).stdout.decode()
 
 
+def counters(program):
+    """Who counts the excuses of a right chain."""
+    import model_chains
+    yield "the second auditor", model_chains.excuses
+    if program:
+        yield program, lambda data: json.loads(subprocess.run([program, "explain", "--chain", "--json"], input=data,
+                                                              stdout=subprocess.PIPE).stdout)["counts"]
+
+
 def main(count="1000", first="0", program=None):
     kinds, failed = collections.Counter(), 0
     for seed in range(int(first), int(first) + int(count)):
-        data, lines, has = chain(seed)
+        data, lines, has, excuses = chain(seed)
         kinds += has
         wrong = [f"{name} says {said[-1:]}" for name, judge in judges(program) for said in [judge(data).splitlines()] if said != lines]
+        if excuses and not wrong:
+            wrong = [f"{name} counts {counted}" for name, count in counters(program) for counted in [count(data)]
+                     if any(counted[what] != excuses[what] for what in EXCUSES)]
         failed += bool(wrong)
         for each in wrong:
             print(f"failed: drawn chain {seed}: {each} for {lines[-1]}")

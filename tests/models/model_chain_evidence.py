@@ -5,103 +5,24 @@ docs/man alone, to compare with. What a segment shares with a trace is tests/mod
     model_chain_evidence.py [--json] <CHAIN     what `nrvs explain --chain` prints, with its status
 """
 import json
-import struct
 import sys
 
 import model_auditor as traces
 import model_chains as chains
 import model_evidence as evidence
+import model_format
 from model_auditor import Fault, Reply
 from model_evidence import event_fact, event_line, step_line, way_lines
 
-FORMAT_LINES = evidence.FORMAT_LINES | {
-    "BadMagic": "bytes 0 to 3 are NRVS",
-    "BadVersion": "bytes 4 and 5 are the version, 1",
-    "BadCount": "levels 4 or 5, replicas 1 to 4, threads and tables 1 to 65535, places to 65536, events to 131072, frames to 65535; "
-                "where a dump has none, its other numbers are 0",
-    "BadChain": "levels, replicas, threads and tables are those of the segment before",
-    "BadStart": "start, frame {}: its number is above the one before it, and below 0x10000000000",
-}
-REASONS = {
-    "Truncated": "they end in {unit}, of whose {size} bytes there are {there}",
-    "BadMagic": "they don't begin with NRVS",
-    "BadVersion": "their version is 0x{read}, and not 1",
-    "BadCount": "a number in {unit} is out of range",
-    "BadChain": "they are not laid out as the segment before them",
-    "BadStart": "frame {0} of the start has a number that is not above the one before it, or too great",
-    "BadEvent": "event {0} is no call and no reply, since {field}",
-    "BadFrame": "frame {1} of dump {0} has a number that is not above the one before it, or too great",
-}
-UNITS = {"BadMagic": "magic", "BadVersion": "version", "BadChain": "counts", "BadStart": "number of frame {0} of the start",
-         "BadEvent": "event {0}", "BadFrame": "number of frame {1} of dump {0}"}
 OF_DUMPS = {"StartMissing": "MissingFrame", "StartShared": "SharedFrame", "StartReserved": "ReservedBit", "StartStray": "StrayFrame"}
 
 
 # ---- a fault of the format ----
 
-def units_of(data):
-    """Each unit of a segment in turn: which it is, where it begins and how many bytes it has. What a count says is read when its unit is
-    passed."""
-    def number(at):
-        return int.from_bytes(data[at:at + 4], "big")
-
-    def frames(count, whose):
-        for index in range(count):
-            yield f"number of frame {index} of {whose}", 8
-            yield f"words of frame {index} of {whose}", 4096
-
-    def sizes():
-        yield from (("magic", 4), ("version", 2), ("counts", 18))
-        if number(20):
-            yield "root of the start", 8
-            yield from frames(number(20), "the start")
-        yield from ((f"place {place}", 4) for place in range(number(12)))
-        yield from ((f"event {index}", 24) for index in range(number(16)))
-        for replica in range(data[7]):
-            yield f"head of dump {replica}", 16
-            yield from frames(number(at - 12), f"dump {replica}")
-
-    at = 0
-    for unit, size in sizes():
-        at += size
-        yield unit, at - size, size
-
-
-def is_bad(data, name, numbers, unit, at, size):
-    """Whether the unit is that of the fault."""
-    if name == "Truncated":
-        return at + size > len(data)
-    if name == "BadCount":
-        return unit == "counts" and not are_counts(*struct.unpack(">BBHHIII", data[6:24])) or "head" in unit and not is_head(data[at:at + size])
-    return unit == UNITS[name].format(*numbers)
-
-
-def are_counts(levels, replicas, threads, tables, places, events, frames):
-    return (levels in (4, 5) and 1 <= replicas <= 4 and min(threads, tables) >= 1 and places <= 65536 and events <= 131072 and frames <= 65535)
-
-
-def is_head(unit):
-    applied, frames, root = struct.unpack(">IIQ", unit)
-    return frames <= 65535 and (frames > 0 or applied == root == 0)
-
-
-def field_of(data, unit):
-    """The first field of an event that isn't what it may be."""
-    levels, replicas, threads = struct.unpack(">BBH", data[6:10])
-    return next(evidence.wrong_fields(evidence.Limits(levels, replicas, threads, 1 + chains.RELEASE, 10), unit))
-
-
 def of_format(data, begins, name, numbers):
     """The unit of the segment that shows the fault, where it begins in the chain and what was read of it; the sentence, and the lines."""
-    data = data[begins:]
-    unit, at, size = next(found for found in units_of(data) if is_bad(data, name, numbers, *found))
-    read = data[at:at + size]
-    shown = {"format": " ".join([name, *numbers]), "begins": begins, "unit": unit, "offset": begins + at, "size": size, "there": len(read),
-             "read": read[:24].hex()}
-    reason = REASONS[name].format(*numbers, **shown, field=name == "BadEvent" and field_of(data, read))
-    return shown, f"These bytes are no segment: {reason}.", [
-        f"the segment begins at byte {begins}", f"{unit}, at byte {begins + at}",
-        f"read {len(read)} of {size} bytes: {read[:24].hex() or 'none'}", FORMAT_LINES[name].format(*numbers)]
+    shown, lines = model_format.of_format(data[begins:], name, numbers, begins)
+    return shown, f"These bytes are no segment: {model_format.reason_words(shown, data[begins:])}.", lines
 
 
 # ---- a fault of the start ----
@@ -204,8 +125,8 @@ def touch_answered(trace, start, number, told):
 
 
 def of_stale(trace, start, number, left):
-    """How many entries of the log it may see, how its address looks after them, and how it may still look behind the segments before; the
-    update that it should have seen, which one before that was open, and after which entries its answer would be right."""
+    """How many entries of the log it may see, how its address looks after them, and how it may still look behind the segments before. Also
+    the update that it should have seen, which one before that was open, and after which entries its answer would be right."""
     end = next(i for i, each in enumerate(trace.events) if isinstance(each, Reply) and each.call == number)
     call, told = trace.events[number], trace.events[end].answer
     is_of_none = told == chains.allow(trace, None, call)
@@ -397,7 +318,7 @@ class Chain:
         self.joined, self.entries = None, 0         # the run so far, and how many entries it has
         self.first = self.has_start = None          # the space with which the chain begins, and whether it has a start
         self.counts = dict.fromkeys(("calls", "updates", "reads", "touches", "releases", "dumps", "replicas", "pages", "overlapping",
-                                     "beside"), 0)
+                                     "beside", *chains.EXCUSES), 0)
 
     def origin(self, space, address):
         """Where comes from how an address looks as a segment begins: that is compared with where the chain begins."""
@@ -423,6 +344,7 @@ class Chain:
                             ("overlapping", evidence.overlapping(segment.trace.events)), ("beside", beside(segment.trace, start))):
             self.counts[words] += more
         self.counts |= {"replicas": segment.trace.replicas, "pages": len(self.space.pages)}
+        self.counts |= {what: self.joined.excuses[what] for what in chains.EXCUSES}
         self.position, self.before, self.number = segment.ends, segment.trace, self.number + 1
 
     def shown(self, segment, fault):

@@ -11,9 +11,8 @@ import struct
 import sys
 
 import model_auditor as traces
-from model_auditor import Answer, Call, Dump, Fault, Reply, Space, Trace
+from model_auditor import RELEASE, TOUCH, Answer, Call, Dump, Fault, Reply, Space, Trace, expect
 
-TOUCH, RELEASE = 5, 6
 FAULTS = "StartMissing StartShared StartReserved StartStray StartBeyond StartDiffers Stale Reachable".split()  # 18 and on
 traces.FAULTS.extend(fault for fault in FAULTS if fault not in traces.FAULTS)
 
@@ -21,22 +20,12 @@ Segment = collections.namedtuple("Segment", "trace start touches releases ends")
 Entry = collections.namedtuple("Entry", "call called answered")  # of the joined log, with its events there; answered may be NEVER
 Life = collections.namedtuple("Life", "page born ended is_taken")  # a page, the places of the entries that made and that ended it, and how
 NEVER = float("inf")
+EXCUSES = "open kept lagging repeated".split()      # of right touches; and the most late faults of a thread at an address in one segment
 
 
-class Reader:
-    """The units of a chain, from left to right."""
-
-    def __init__(self, data, position):
-        self.data, self.position = data, position
-
-    def unit(self, length, form):
-        if self.position + length > len(self.data):
-            raise Fault("Format", "Truncated")
-        self.position += length
-        return struct.unpack_from(form, self.data, self.position - length)
-
+class Reader(traces.Reader):
     def event(self, levels, replicas, threads):
-        unit = b"".join(self.unit(24, "24s"))
+        unit, = self.unit("24s")
         if unit[0] == 0 and unit[4] == RELEASE:
             return release(unit, replicas, threads)
         if unit[0] == 0 and unit[4] == TOUCH:
@@ -44,25 +33,10 @@ class Reader:
             return call and call._replace(kind=TOUCH)
         return traces.event(unit, 2, levels, replicas, threads)
 
-    def frames(self, count, fault):
-        """So many frames by rising number."""
-        memory, last = {}, -1
-        for k in range(count):
-            number, = self.unit(8, ">Q")
-            expect(last < number < 1 << 40, *fault, k)
-            memory[number] = self.unit(4096, ">512Q")
-            last = number
-        return memory
-
-
-def expect(fits, *fault):
-    if not fits:
-        raise Fault("Format", *fault)
-
 
 def release(unit, replicas, threads):
     """The call that gives memory away, which 24 bytes spell; or None."""
-    _, replica, thread, kind, size, rights, zero, address, phys = struct.unpack(">BBHBBBBQQ", unit)
+    _, replica, thread, kind, size, rights, zero, address, phys = struct.unpack(traces.CALL, unit)
     fits = (replica < replicas and thread < threads and size < 3 and rights == zero == address == 0
             and phys % traces.SIZES[size] == 0 and phys + traces.SIZES[size] <= 1 << 51)
     return Call(replica, thread, kind, size, rights, address, phys) if fits else None
@@ -71,26 +45,26 @@ def release(unit, replicas, threads):
 def read_segment(data, position, before):
     """The segment that begins there; `before` is the trace of the one before it, or None. Raises the first format fault."""
     reader = Reader(data, position)
-    expect(reader.unit(4, "4s") == (b"NRVS",), "BadMagic")
-    expect(reader.unit(2, ">H") == (1,), "BadVersion")
-    levels, replicas, threads, tables, places, count, started = reader.unit(18, ">BBHHIII")
+    expect(reader.unit("4s") == (b"NRVS",), "BadMagic")
+    expect(reader.unit(">H") == (1,), "BadVersion")
+    levels, replicas, threads, tables, places, count, started = reader.unit(">BBHHIII")
     expect(levels in (4, 5) and 1 <= replicas <= 4 and 1 <= threads and 1 <= tables
            and places <= 65536 and count <= 131072 and started <= 65535, "BadCount")
     expect(before is None or (levels, replicas, threads, tables) == before[1:5], "BadChain")
     start = None
     if started:
-        root, = reader.unit(8, ">Q")
-        start = Dump(0, root, reader.frames(started, ["BadStart"]))
-    log = [reader.unit(4, ">I")[0] for _ in range(places)]
+        root, = reader.unit(">Q")
+        start = Dump(0, root, reader.frames(started, "BadStart"))
+    log = [reader.unit(">I")[0] for _ in range(places)]
     events = []
     for i in range(count):
         events.append(reader.event(levels, replicas, threads))
         expect(events[-1], "BadEvent", i)
     dumps = []
     for r in range(replicas):
-        applied, frames, root = reader.unit(16, ">IIQ")
+        applied, frames, root = reader.unit(">IIQ")
         expect(frames <= 65535 and (frames > 0 or applied == root == 0), "BadCount")
-        dumps.append(Dump(applied, root, reader.frames(frames, ["BadFrame", r])) if frames else None)
+        dumps.append(Dump(applied, root, reader.frames(frames, "BadFrame", r)) if frames else None)
     trace = Trace(2, levels, replicas, threads, tables, log, events, dumps)
     touches, releases = ({i for i, each in enumerate(events) if isinstance(each, Call) and each.kind == kind} for kind in (TOUCH, RELEASE))
     return Segment(trace, start, touches, releases, reader.position)
@@ -136,7 +110,7 @@ class Joined:
     """The segments so far, as one run: the space with which the first begins, all entries, and how many events there were."""
 
     def __init__(self, begin):
-        self.begin, self.entries, self.events, self.before = begin.copy(), [], 0, 0
+        self.begin, self.entries, self.events, self.before, self.excuses = begin.copy(), [], 0, 0, Excuses()
 
     def add(self, trace):
         """A further segment; `before` is how many entries the earlier ones have, `first` the number of its first event."""
@@ -219,19 +193,46 @@ def known_of_touches(segment):
     return known
 
 
+def excuse_of(trace, call, answer, seen, bounds, cut, late):
+    """The excuse of a touch, or None where it isn't right. `seen` is how its address looks, `bounds` are those of `Joined.bounds`, `cut` is the
+    moment with which its segment begins, and `late` gives whether it faults by a table that lags. It needs no excuse where it is answered
+    as after the newest moment that it may see. It is `kept` where it is a fault and no moment that fits has each change of earlier segments,
+    and each that was answered before; else `open`."""
+    with_page, without, most = bounds
+    fits = [n for n in range(with_page, most + 1) if (seen[n] or n >= without) and allow(trace, seen[n], call) == answer]
+    if not fits:
+        return "lagging" if late() else None
+    if most in fits:
+        return "none"
+    return "kept" if answer.code == traces.PAGE_FAULT and fits[-1] < max(without, cut) else "open"
+
+
+class Excuses(collections.Counter):
+    """How many touches have each excuse, and the most faults of a thread at an address in one segment that are kept or lagging."""
+
+    def add(self, excuses):
+        """Those of a segment: of each touch its thread, its address and its excuse."""
+        self.update(excuse for _, _, excuse in excuses)
+        late = collections.Counter((thread, address) for thread, address, excuse in excuses if excuse in ("kept", "lagging"))
+        self["repeated"] = max(self["repeated"], *late.values(), 0)
+
+
 def check_touches(segment, joined):
     """Each answered touch is answered as its address was at a moment that is allowed, or by a fault that may come late."""
-    trace, known = segment.trace, known_of_touches(segment)
+    trace, known, excuses = segment.trace, known_of_touches(segment), []
     answered = sorted(number for number in segment.touches if number in joined.replied)
     changes = joined.changes(sorted({trace.events[number].address for number in answered}))
     for number in answered:
         call, reply = trace.events[number], trace.events[joined.replied[number]]
         places, seen = changes[call.address]           # how it looks before the first of these places, and after each
         events = joined.first + number, joined.first + joined.replied[number]
-        moments = joined.allowed(places, seen, *events)
-        if (not any(allow(trace, seen[n], call) == reply.answer for n in moments)
-                and not is_of_lagging(trace, call, reply.answer, joined.before + known[number], places, seen, moments[-1])):
+        bounds = joined.bounds(places, seen, *events)
+        excuse = excuse_of(trace, call, reply.answer, seen, bounds, bisect.bisect_left(places, joined.before),
+                           lambda: is_of_lagging(trace, call, reply.answer, joined.before + known[number], places, seen, bounds[2]))
+        if excuse is None:
             raise Fault("Stale", number)
+        excuses.append((call.thread, call.address, excuse))
+    joined.excuses.add(excuses)
 
 
 # ---- releases ----
@@ -262,7 +263,7 @@ class Lives:
         return bool(parts)
 
     def is_forbidden(self, life, other, event):
-        """At this event the page can't be found at addresses of the other (which may be the same one), by how that began and ended: it is over
+        """At this event the page can't be found at addresses of the other (which may be the same one), by how that began and ended. It is over
         where something was taken away and that was answered, and not yet there where an update was called later."""
         entries = self.joined.entries
         if other.is_taken and other.ended >= life.ended and entries[other.ended].answered < event:
@@ -329,19 +330,34 @@ def check_segment(segment, space, joined):
     return order, start, joined
 
 
+def judged(data):
+    """Each segment in turn, with its order, the space behind it, and the run so far; raises the first fault."""
+    position, before, space, joined = 0, None, None, None
+    while position < len(data) or before is None:
+        segment = read_segment(data, position, before)
+        order, space, joined = check_segment(segment, space, joined)
+        yield segment, order, space, joined
+        position, before = segment.ends, segment.trace
+
+
 def verdict(data, quiet=False):
     """What `nrvs audit --chain` prints of the bytes, and its status."""
-    lines, position, number, before, space, joined = [], 0, 0, None, None, None
-    while position < len(data) or number == 0:
-        try:
-            segment = read_segment(data, position, before)
-            order, space, joined = check_segment(segment, space, joined)
-        except Fault as fault:
-            return "\n".join(lines + [f"segment {number}", str(fault)]) + "\n", 1
-        if not quiet:
-            lines += [f"segment {number}", "yes", " ".join(["order"] + [str(call) for call in order])]
-        position, before, number = segment.ends, segment.trace, number + 1
+    lines, number = [], 0
+    try:
+        for _, order, _, _ in judged(data):
+            if not quiet:
+                lines += [f"segment {number}", "yes", " ".join(["order"] + [str(call) for call in order])]
+            number += 1
+    except Fault as fault:
+        return "\n".join(lines + [f"segment {number}", str(fault)]) + "\n", 1
     return "\n".join(lines + [f"segments {number}"]) + "\n", 0
+
+
+def excuses(data):
+    """How many touches of a right chain have each excuse; and the most faults of a thread at an address in one segment that are kept or
+    lagging."""
+    *_, (_, _, _, joined) = judged(data)
+    return {what: joined.excuses[what] for what in EXCUSES}
 
 
 def main(words):

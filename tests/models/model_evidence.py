@@ -7,52 +7,16 @@ and docs/DEFINITIONS.md alone, to compare with. Nothing here is proved, and noth
     model_evidence.py --all [--json] <TRACE     what `nrvs explain --all` prints, in lines or as JSON, with its status
     model_evidence.py resolve A [R] <TRACE      what `nrvs resolve --steps --address A --replica R` prints, with its status
 """
-import collections
 import json
-import struct
 import sys
 
 import model_auditor as model
-from model_auditor import Call, Reply
+from model_auditor import TOUCH, Call, Reply
+from model_format import of_format
+from model_words import answer_words, request_words, sentence_of
 
-TOUCH, RELEASE = 5, 6                               # kinds that only calls of chains have
-FORMAT_LINES = {
-    "Truncated": "the bytes end before the last unit does",
-    "BadMagic": "bytes 0 to 3 are NRVT",
-    "BadVersion": "bytes 4 and 5 are the version, 1 or 2",
-    "BadCount": "levels 4 (version 2: or 5), replicas 1 to 4, threads 1 to 64, tables 1 to 4096, places to 65536, events to 131072, frames 1 to 4096",
-    "BadEvent": "event {}: 24 bytes that spell no call and no reply here",
-    "BadFrame": "replica {}, frame {}: its number is above the one before it, and below 0x10000000000",
-    "Trailing": "nothing stands after the last unit",
-}
 RESERVED = {2: "bits 13 to 20 are reserved in an entry that maps 2M", 3: "bits 13 to 29 are reserved in an entry that maps 1G",
             4: "bit 7 is reserved in an entry of level {}"}
-
-
-# ---- words ----
-
-def rights_words(rights):
-    return "".join(letter if rights & bit else "-" for letter, bit in zip("wux", (model.WRITE, model.USER, model.EXEC)))
-
-
-def request_words(call):
-    """As a script has it; a touch, which no script has, as an access, and a release with its memory."""
-    size, rights = model.SIZE_NAMES[call.size], rights_words(call.rights)
-    return {model.MAP: f"map {size} {call.address:#x} {call.phys:#x} {rights}",
-            model.UNMAP: f"unmap {call.address:#x}",
-            model.PROTECT: f"protect {call.address:#x} {rights}",
-            model.RESOLVE: f"resolve {call.address:#x}",
-            model.ACCESS: f"access {'su'[call.rights & 1]} {'rwx'[call.size]} {call.address:#x}",
-            TOUCH: f"touch {'su'[call.rights & 1]} {'rwx'[call.size]} {call.address:#x}",
-            RELEASE: f"release {size} {call.phys:#x}"}[call.kind]
-
-
-def answer_words(answer):
-    page = f"{answer.value:#x} {model.SIZE_NAMES[answer.size]} {rights_words(answer.rights)}"
-    return {model.DONE: "done", model.OVERLAP: f"overlap {answer.value:#x}", model.FULL: f"full {answer.value}",
-            model.REMOVED: f"removed {page}", model.NOT_MAPPED: "not mapped", model.INSIDE: f"inside {answer.value:#x}",
-            model.CHANGED: f"changed {rights_words(answer.rights)}", model.MAPPED: f"mapped {page}",
-            model.ALLOWED: f"allowed {answer.value:#x}", model.PAGE_FAULT: f"fault {answer.value}"}[answer.code]
 
 
 # ---- facts: each as JSON, and as a line of text ----
@@ -354,178 +318,11 @@ def lines_of(fault, shown, places):
     }[fault]()
 
 
-# ---- the sentences ----
-
-def many(count, word):
-    return f"{count} {word if count == 1 else word[:-1] + 'ies' if word[-1] == 'y' else word + 's'}"
-
-
-def named_words(named, of_call, of_other):
-    """What an event is that a number names, where it isn't what it should be; `of_other` has a touch or a release."""
-    if named is None or "request" not in named:
-        return "that event is a reply" if named else "there is no such event"
-    kind = named["request"].split()[0]
-    return of_other.format(kind) if kind in ("touch", "release") else of_call
-
-
-def sentence_of(fault, shown, header):
-    """What is wrong, with its numbers, after this header. The facts are named as in the JSON."""
-    of = {name: fact["event"] for name, fact in shown.items() if isinstance(fact, dict) and "event" in fact}
-    told = {name: fact["answer"] for name, fact in shown.items() if isinstance(fact, dict) and "answer" in fact}
-    reply, named = shown.get("reply") or {}, shown.get("named")
-    wanted, replica = shown.get("wanted"), f"replica {shown.get('replica')}"
-    dump, frame, asked = f"The dump of {replica}", f"frame {shown.get('frame', 0):#x}", (named or {}).get("request", "")
-    return {
-        "ThreadOpen": lambda: f"Thread {shown['second']['thread']} makes call {of['second']} while its call {of['first']} has no reply "
-                              "yet.",
-        "NoSuchCall": lambda: f"Event {of['reply']} replies to call {reply['call']}, which is no call before it: "
-                              f"{named_words(named, 'that call is made later', 'that {} is made later')}.",
-        "AnsweredTwice": lambda: f"Event {of['second']} answers call {of['call']} again: event {of['first']} had answered it.",
-        "NotAnUpdate": lambda: f"Place {shown['place']} of the log has the number {shown['call']}, which is no update: "
-                               f"{named_words(named, f'that call only reads, {asked}', 'that event is a {}')}.",
-        "PlacedTwice": lambda: f"Call {of['call']} is in the log twice: at place {shown['first']}, and again at place {shown['second']}.",
-        "NotPlaced": lambda: f"Event {of['reply']} says that call {of['call']} is at place {reply['at']} of the log, but the log has "
-                             f"{'no such place' if shown['there'] is None else 'call %d there' % shown['there']}.",
-        "PastLog": lambda: f"Event {of['reply']} says that call {of['call']} saw {many(reply['at'], 'entry')} of the log, which has "
-                           f"{shown['places']}.",
-        "Early": lambda: f"Call {of['call']} {stands_words(shown)} of the log, but before it was made a reply had shown {shown['floor']}.",
-        "WrongAnswer": lambda: f"Call {of['call']} was answered `{told['reply']}`, but after the "
-                               f"{many(reply['at'], 'update')} before it the address space answers `{wanted}`.",
-        "PrefixPastLog": lambda: f"{dump} says that it has applied {many(shown['applied'], 'entry')}, but the log has {shown['places']}.",
-        "PrefixShort": lambda: f"{dump} has applied {many(shown['applied'], 'entry')}, but a reply given there shows {shown['known']}.",
-        "MissingFrame": lambda: (f"An entry of the tables of {replica} leads to" if shown["path"] else f"The root of {replica} is")
-                                + f" {frame}, which the dump doesn't have.",
-        "SharedFrame": lambda: f"The tables of {replica} reach {frame} twice: a change on one way is seen on the other.",
-        "ReservedBit": lambda: f"Entry {shown['entry']['index']} of frame {shown['entry']['frame']:#x} of {replica} has the reserved bit "
-                               f"{shown['bit']} set: a processor faults there.",
-        "StrayFrame": lambda: f"{dump} holds {frame} as a table, and no table leads to it.",
-        "Differs": lambda: f"At {shown['address']} the tables of {replica} say `{shown['found']}`, but after "
-                           f"{many(shown['applied'], 'update')} the address space says `{wanted}`.",
-        "Format": lambda: f"These bytes are no trace: {reason_words(shown, header)}.",
-    }[fault]()
-
-
-def stands_words(shown):
-    """Where a call is that is too early."""
-    reads = shown["call"]["request"].split()[0] in ("resolve", "access")
-    return f"was answered from {many(shown['entries'], 'entry')}" if reads else f"is at place {shown['entries']}"
-
-
-def reason_words(shown, header):
-    """Why bytes are no trace."""
-    name, *numbers = shown["format"].split()
-    return {
-        "Truncated": "they end in {unit}, of whose {size} bytes there are {there}",
-        "BadMagic": "they don't begin with NRVT",
-        "BadVersion": "their version is 0x{read}, and not 1 or 2",
-        "BadCount": "a number in {unit} is out of range",
-        "BadEvent": "event {0} is no call and no reply, since {field}",
-        "BadFrame": "frame {1} of dump {0} has a number that is not above the one before it, or too great",
-        "Trailing": "more bytes follow the last unit",
-    }[name].format(*numbers, **shown, field=name == "BadEvent" and next(wrong_fields(limits_of(header), bytes.fromhex(shown["read"]))))
-
-
-Limits = collections.namedtuple("Limits", "levels replicas threads kinds answers")  # how many there are of each
-
-
-def limits_of(header):
-    """Which fields an event may have after this header."""
-    version, levels, replicas, threads = struct.unpack(">HBBH", header[4:10])
-    return Limits(levels, replicas, threads, 3 + version, 6 + 2 * version)
-
-
-def wrong_fields(limits, unit):
-    """Each field of 24 bytes that isn't what it may be, in the order of the bytes."""
-    levels, replicas, threads, kinds, answers = limits
-    if unit[0] == 0:
-        _, replica, thread, kind, size, rights, unused, address, phys = struct.unpack(">BBHBBBBQQ", unit)
-        is_map, is_access, is_release = kind == model.MAP, kind in (model.ACCESS, TOUCH), kind == RELEASE
-        yield from below("replica is", replica, replicas)
-        yield from below("thread is", thread, threads)
-        yield from below("kind is", kind, kinds)
-        yield from below("access is" if is_access else "size is", size, 3 if is_map or is_access or is_release else 1)
-        yield from below("mode is" if is_access else "rights are", rights, 2 if is_access else 8 if is_map or kind == model.PROTECT else 1)
-        yield from below("unused bytes are", unused, 1)
-        step = model.SIZES[size] if is_map or is_release else 1 if is_access or kind == model.RESOLVE else 4096
-        if is_release:
-            yield from below("address is", address, 1, hex)
-        elif not model.is_canonical(levels, address):
-            yield f"its address is {address:#x}, which isn't canonical with {levels} levels"
-        yield from multiple("address", address, step)
-        if is_map or is_release:
-            yield from multiple("physical address", phys, step)
-            if phys + step > 1 << 51:
-                yield f"its physical address is {phys:#x}, and its page ends above {1 << 51:#x}"
-        else:
-            yield from below("physical address is", phys, 1, hex)
-    elif unit[0] == 1:
-        _, code, size, rights, _, _, unused, value = struct.unpack(">BBBBIIIQ", unit)
-        uses = model.ANSWER_USES.get(code, "")
-        yield from below("answer is", code, answers)
-        yield from below("size is", size, 3 if "size" in uses else 1)
-        yield from below("rights are", rights, 8 if "rights" in uses else 1)
-        yield from below("unused bytes are", unused, 1)
-        yield from below("value is", value, 1 << 64 if "value" in uses else 1, hex)
-    else:
-        yield f"its tag is {unit[0]}, and not below 2"
-
-
-def below(name, number, limit, words=str):
-    if number >= limit:
-        yield f"its {name} {words(number)}, and not {'0' if limit == 1 else f'below {limit}'}"
-
-
-def multiple(name, number, step):
-    if number % step:
-        yield f"its {name} is {number:#x}, which is no multiple of {step:#x}"
-
-
-# ---- the unit that shows a fault of the format ----
-
-def units_of(data):
-    """Each unit in turn: which it is, where it begins and how many bytes it has. What a count says is read when its unit is passed."""
-    def number(at, size):
-        return int.from_bytes(data[at:at + size], "big")
-
-    yield from (("magic", 0, 4), ("version", 4, 2), ("counts", 6, 14))
-    places, events = number(12, 4), number(16, 4)
-    yield from ((f"place {place}", 20 + 4 * place, 4) for place in range(places))
-    yield from ((f"event {index}", 20 + 4 * places + 24 * index, 24) for index in range(events))
-    at = 20 + 4 * places + 24 * events
-    for replica in range(data[7]):
-        yield f"head of dump {replica}", at, 16
-        frames = number(at + 4, 4)
-        at += 16
-        for index in range(frames):
-            yield f"number of frame {index} of dump {replica}", at, 8
-            yield f"words of frame {index} of dump {replica}", at + 8, 4096
-            at += 4104
-    yield "behind the last unit", at, 1
-
-
-def is_bad(data, name, numbers, unit, at, size):
-    """Whether the unit is that of the fault."""
-    if name == "Truncated":
-        return at + size > len(data)
-    if name == "BadCount":
-        frames = int.from_bytes(data[at + 4:at + 8], "big")
-        return unit == "counts" and model.verdict(data[:20])[0].split()[-1] == name or "head" in unit and not 1 <= frames <= 4096
-    return unit == {"BadMagic": "magic", "BadVersion": "version", "BadEvent": "event {}", "BadFrame": "number of frame {1} of dump {0}",
-                    "Trailing": "behind the last unit"}[name].format(*numbers)
-
-
-def of_format(data, name, numbers):
-    """The unit that shows the fault, and what was read of it; and the lines of that."""
-    unit, at, size = next(found for found in units_of(data) if is_bad(data, name, numbers, *found))
-    read = data[at:at + size]
-    shown = {"format": " ".join([name, *numbers]), "unit": unit, "offset": at, "size": size, "there": len(read), "read": read[:24].hex()}
-    return shown, [f"{unit}, at byte {at}", f"read {len(read)} of {size} bytes: {read[:24].hex() or 'none'}",
-                   FORMAT_LINES[name].format(*numbers)]
-
-
 # ---- the whole answer ----
 
-COUNTS = {"overlapping": "overlapping calls", "beside": "touches beside an update"}    # the words of a line where they aren't the name
+# the words of a line where they aren't the name
+COUNTS = {"overlapping": "overlapping calls", "beside": "touches beside an update", "open": "touches right since an update was open",
+          "kept": "faults by kept rights", "lagging": "faults by a lagging table", "repeated": "most of these by one thread at one address"}
 
 
 def overlapping(events):

@@ -109,14 +109,12 @@ def shown_start(data, as_ranges=False):
 
 def shown_end(data, as_ranges=False):
     """What `nrvs pages --chain --end` prints, and its status: all segments are judged, and the space after them shown."""
-    position, number, before, space, joined = 0, 0, None, None, None
-    while position < len(data) or number == 0:
-        try:
-            segment = chains.read_segment(data, position, before)
-            _, space, joined = chains.check_segment(segment, space, joined)
-        except Fault as fault:
-            return f"segment {number}\n{fault}\n", 1
-        position, before, number = segment.ends, segment.trace, number + 1
+    number = 0
+    try:
+        for _, _, space, _ in chains.judged(data):
+            number += 1
+    except Fault as fault:
+        return f"segment {number}\n{fault}\n", 1
     return text_of(space.listed(), as_ranges), 0
 
 

@@ -1,6 +1,6 @@
 -- What a parse by clap says of the inspection that is asked for.
 use Rattle.std.proofs.Common.{◌≡◌, ◌∙◌, ◌≤◌, ◌⊎◌, ◌||◌, map, ℕ, Bool, true, false, List, [], ◌∷◌, Option, Some, None, Result, Ok, Err, ap, ap₂, inl}
-use Rattle.std.proofs.Common.{inr, sym, refl, subst, codes, option_map, unwrap_or}
+use Rattle.std.proofs.Common.{arith, inr, sym, refl, subst, codes, option_map, unwrap_or}
 use Rattle.std.proofs.Common.{Bor, Box, IfErr, IfOk}
 use Rattle.std.specs.Result.{IsErrAnd}
 use Rattle.std.specs.Box.{box_value}
@@ -16,7 +16,7 @@ use Rattle.clap.specs.declared.error.kind.ErrorKind.TheVariants.{OutOfMemory}
 use Rattle.clap.specs.declared.parser.matches.SubCommand.{SubCommand}
 use Rattle.clap.specs.declared.parser.matches.ArgMatches.TheViews.{out-SubCommand}
 use Rattle.audit_texts.specs.declared.chain.style.Style.{Style}
-use Rattle.audit_commands.specs.Words.{AsksAudit, AsksTraces, HasSeveralFiles, IsFlag, IsLocal, IsMisuse, IsMisused, IsPagesMisuse, IsReplica}
+use Rattle.audit_commands.specs.Words.{AsksAudit, AsksTraces, HasSeveralFiles, IsFlag, IsLocal, IsMisuse, IsMisused, IsNumberOf, IsPagesMisuse, IsLeast}
 use Rattle.audit_commands.specs.declared.inspection.Inspection.{Inspection}
 use Rattle.audit_commands.specs.declared.inspection.Inspection.TheVariants.{One, Each}
 use Rattle.audit_commands.specs.declared.task.Task.{Task}
@@ -99,12 +99,13 @@ text_or_none None d t e empty = ap (λ x. unwrap_or x []) (sym e) ∙ sym empty
 text_or_none (Some s) d t e empty = ap (λ x. unwrap_or x []) (sym e)
 
 -- the number of a value, or 0
-pub replica_read : {E : Type 0} (gives : List ℕ → Result ℕ E → Type 0) → ((text : List ℕ) (r : Result ℕ E) → gives text r → ParsesUnsigned 8 10 text r)
+pub number_read : {E : Type 0} (bits : ℕ) (gives : List ℕ → Result ℕ E → Type 0)
+    → ((text : List ℕ) (r : Result ℕ E) → gives text r → ParsesUnsigned bits 10 text r)
     → (t : Option Text) (result : Option ℕ) → (t ≡ None → result ≡ None) → ((text : Text) → t ≡ Some text → ReadsOne gives text result)
-    → IsReplica t (unwrap_or result 0)
-replica_read gives weaker None result none value = ap (λ r. unwrap_or r 0) (none refl)
-replica_read gives weaker (Some text) (Some n) none value = inl (weaker text (Ok n) (value text refl))
-replica_read gives weaker (Some text) None none value = let h = value text refl in inr (refl, weaker text (Err h.0) h.1)
+    → IsNumberOf bits t (unwrap_or result 0)
+number_read bits gives weaker None result none value = ap (λ r. unwrap_or r 0) (none refl)
+number_read bits gives weaker (Some text) (Some n) none value = inl (weaker text (Ok n) (value text refl))
+number_read bits gives weaker (Some text) None none value = let h = value text refl in inr (refl, weaker text (Err h.0) h.1)
 
 -- the flag is that of a text that is the same
 pub flag_of : (t u : Option Text) (flag : Bool) → t ≡ u → (t ≡ None → flag ≡ false) → (t ≡ Some (codes "true") → flag ≡ true)
@@ -117,33 +118,38 @@ flag_is {t = t} is same = subst (IsFlag t) same is
 
 -- ---- what was given with `audit`
 
+-- no call is to overlap
+pub none_asked : (least : ℕ) → least ≤ 0 → least ≡ 0
+none_asked least few = omega arith
+
 -- an audit of traces
 pub asks_traces : (rows : List Row) (asked : Inspection) → IsFlag (one_of (codes "chain") rows) false → IsFlag (one_of (codes "quiet") rows) false
     → IsFlag (one_of (codes "progress") rows) false → AsksTraces rows asked → AsksAudit rows asked
-asks_traces rows (One (Audit as_json) input) chain quiet still asks = (chain, quiet, still, asks)
+asks_traces rows (One (Audit as_json least) input) chain quiet still asks = (chain, quiet, still, asks)
 asks_traces rows (One (Explain as_json with_dumps) input) chain quiet still asks = absurd asks
 asks_traces rows (One (Resolve word replica with_steps) input) chain quiet still asks = absurd asks
 asks_traces rows (One (Pages replica as_ranges) input) chain quiet still asks = absurd asks
-asks_traces rows (One (AuditChain style watched) input) chain quiet still asks = absurd asks
+asks_traces rows (One (AuditChain style watched least) input) chain quiet still asks = absurd asks
 asks_traces rows (One (ExplainChain as_json) input) chain quiet still asks = absurd asks
 asks_traces rows (One (PagesOfChain point as_ranges) input) chain quiet still asks = absurd asks
 asks_traces rows (Each as_json names) chain quiet still asks = (chain, quiet, still, asks)
 
 -- of one chain
-pub asks_chain : (rows : List Row) (task : Task) (input : Option (Bor (List ℕ))) (style : Style) (watched : Bool)
+pub asks_chain : (rows : List Row) (task : Task) (input : Option (Bor (List ℕ))) (style : Style) (watched : Bool) (least : ℕ)
     → IsFlag (one_of (codes "chain") rows) true → IsFlag (one_of (codes "quiet") rows) style.quiet → IsFlag (one_of (codes "json") rows) style.as_json
-    → IsFlag (one_of (codes "progress") rows) watched → AsksTraces rows (One task input) → AsksAudit rows (One (AuditChain style watched) input)
-asks_chain rows (Audit own) input style watched chain still json shown asks = (chain, still, json, shown, asks.1)
-asks_chain rows (Explain as_json with_dumps) input style watched chain still json shown asks = absurd asks
-asks_chain rows (Resolve word replica with_steps) input style watched chain still json shown asks = absurd asks
-asks_chain rows (Pages replica as_ranges) input style watched chain still json shown asks = absurd asks
-asks_chain rows (AuditChain own seen) input style watched chain still json shown asks = absurd asks
-asks_chain rows (ExplainChain as_json) input style watched chain still json shown asks = absurd asks
-asks_chain rows (PagesOfChain point as_ranges) input style watched chain still json shown asks = absurd asks
+    → IsFlag (one_of (codes "progress") rows) watched → IsLeast rows least → AsksTraces rows (One task input)
+    → AsksAudit rows (One (AuditChain style watched least) input)
+asks_chain rows (Audit own few) input style watched least chain still json shown asked asks = (chain, still, json, shown, asked, asks.2)
+asks_chain rows (Explain as_json with_dumps) input style watched least chain still json shown asked asks = absurd asks
+asks_chain rows (Resolve word replica with_steps) input style watched least chain still json shown asked asks = absurd asks
+asks_chain rows (Pages replica as_ranges) input style watched least chain still json shown asked asks = absurd asks
+asks_chain rows (AuditChain own seen few) input style watched least chain still json shown asked asks = absurd asks
+asks_chain rows (ExplainChain as_json) input style watched least chain still json shown asked asks = absurd asks
+asks_chain rows (PagesOfChain point as_ranges) input style watched least chain still json shown asked asks = absurd asks
 
 -- several files
 pub several_files : (rows : List Row) (asked : Inspection) → AsksTraces rows asked
     → ((task : Task) (input : Option (Bor (List ℕ))) → asked ≡ One task input → ⊥) → HasSeveralFiles rows
 several_files rows (One task input) asks none = absurd (none task input refl)
 several_files rows (Each as_json names) asks none =
-    (map (λ name. name.now) names.items, asks.1, subst (λ (n : ℕ). 2 ≤ n) (sym (length-map names.items (λ (name : Bor (List ℕ)). name.now))) asks.2)
+    (map (λ name. name.now) names.items, asks.2, subst (λ (n : ℕ). 2 ≤ n) (sym (length-map names.items (λ (name : Bor (List ℕ)). name.now))) asks.3)

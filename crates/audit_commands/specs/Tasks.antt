@@ -32,29 +32,29 @@ pub record Answers {W : Type 0} (IsAnswer : List ℕ → List ℕ → ℕ → Ty
   pub alone : WritesAnswersAlone old new outcome
 
 -- the audit of a chain was made of this input, where it is specified; where it has no answer, the lines of right segments were written
-pub record AuditsChain {W : Type 0} (style : Style) (known : Option (List ℕ)) (contents : W
+pub record AuditsChain {W : Type 0} (style : Style) (least : ℕ) (known : Option (List ℕ)) (contents : W
     → Option (List ℕ)) (old new : W) (outcome : Result ℕ ProgFault) : Type 0 where
-  pub ends : MatchResult outcome (WritesReport (IsChainAudit style) known (contents old) (contents new)) IsEndFault
+  pub ends : MatchResult outcome (WritesReport (IsChainAudit style least) known (contents old) (contents new)) IsEndFault
   pub first : IfErr outcome (λ fault. fault ≢ CannotWrite
       → (left : Option (List ℕ)) × HasWrittenFirst style known left (contents old) (contents new) fault)
 
 -- the task was done on an input
 abbrev pub RunsTask : {W : Type 0} → Task → Option (List ℕ) → (W → Option (List ℕ)) → W → W → Result ℕ ProgFault → Type 0
-RunsTask (Audit as_json) known contents old new outcome = Answers (IsAudit as_json) IsEndFault known contents old new outcome
+RunsTask (Audit as_json least) known contents old new outcome = Answers (IsAudit as_json least) IsEndFault known contents old new outcome
 RunsTask (Explain as_json false) known contents old new outcome = Answers (IsExplained as_json) IsEndFault known contents old new outcome
 RunsTask (Explain as_json true) known contents old new outcome = Answers (IsFullyExplained as_json) IsEndFault known contents old new outcome
 RunsTask (Resolve word replica with_steps) known contents old new outcome =
     Answers (IsResolve word.now replica with_steps) (IsResolveFault word.now replica with_steps known) known contents old new outcome
 RunsTask (Pages replica as_ranges) known contents old new outcome =
     Answers (IsPages as_ranges replica) (IsPagesFault as_ranges replica known) known contents old new outcome
-RunsTask (AuditChain style watched) known contents old new outcome = AuditsChain style known contents old new outcome
+RunsTask (AuditChain style watched least) known contents old new outcome = AuditsChain style least known contents old new outcome
 RunsTask (ExplainChain as_json) known contents old new outcome = Answers (IsChainExplained as_json) IsEndFault known contents old new outcome
 RunsTask (PagesOfChain Start as_ranges) known contents old new outcome = Answers (IsChainStart as_ranges) IsEndFault known contents old new outcome
 RunsTask (PagesOfChain End as_ranges) known contents old new outcome = Answers (IsChainEnd as_ranges) IsEndFault known contents old new outcome
 
 -- how much was read for it
 abbrev pub HasReadFewFor : Task → Option (List ℕ) → Option (List ℕ) → Type 0
-HasReadFewFor (AuditChain style watched) old new = HasReadFewOfChain old new
+HasReadFewFor (AuditChain style watched least) old new = HasReadFewOfChain old new
 HasReadFewFor (ExplainChain as_json) old new = HasReadFewOfChain old new
 HasReadFewFor (PagesOfChain Start as_ranges) old new = HasReadFewOfStart old new
 HasReadFewFor (PagesOfChain End as_ranges) old new = HasReadFewOfChain old new
@@ -62,7 +62,7 @@ HasReadFewFor _ old new = HasReadFew old new
 
 -- the most that can be read for it
 abbrev pub most_bytes : Task → ℕ
-most_bytes (AuditChain style watched) = 2 ^ 52 - 1
+most_bytes (AuditChain style watched least) = 2 ^ 52 - 1
 most_bytes (ExplainChain as_json) = 2 ^ 52 - 1
 most_bytes (PagesOfChain point as_ranges) = 2 ^ 52 - 1
 most_bytes _ = 70647893

@@ -1,5 +1,5 @@
 -- The words of the commands `audit`, `explain`, `resolve` and `pages`, as clap's definitions read words, and what they ask for.
-use Rattle.std.specs.Prelude.{◌≡◌, ◌≤◌, ◌⊎◌, ℕ, Bool, true, false, List, [], ◌∷◌, Option, Some, None, IfSome, Ok, Err, codes, length, map, pos}
+use Rattle.std.specs.Prelude.{◌≡◌, ◌<◌, ◌≤◌, ◌⊎◌, ℕ, Bool, true, false, List, [], ◌∷◌, Option, Some, None, IfSome, Ok, Err, codes, length, map, pos}
 use Rattle.std.specs.Prelude.{unwrap_or, option_map, if◌then◌else◌}
 use Rattle.std.specs.Borrow.{Bor}
 use Rattle.std.specs.Str.{bytes_eq}
@@ -44,6 +44,14 @@ replica_option = record (new_rule (codes "replica")) {
   defaults = codes "0" ∷ [];
 }
 
+-- --least-overlap NUMBER, from 0 to 2 ^ 32 - 1, and 0 where it is not given
+abbrev pub least_option : Rule
+least_option = record (new_rule (codes "least-overlap")) {
+  long = Some (codes "least-overlap");
+  parser = Some (parsers.Signed (pos 0) (pos 4294967295));
+  defaults = codes "0" ∷ [];
+}
+
 -- --json, which has no value
 abbrev pub json_option : Rule
 json_option = record (new_rule (codes "json")) { long = Some (codes "json"); action = Some SetTrue }
@@ -73,8 +81,8 @@ steps_option = record (new_rule (codes "steps")) { long = Some (codes "steps"); 
 -- the command `audit`, with its options and files
 abbrev pub audit_app : App
 audit_app =
-    with_rule (with_rule (with_rule (with_rule (with_rule (new_app (codes "audit")) json_option) chain_option) quiet_option)
-    (flag_option (codes "progress"))) files_argument
+    with_rule (with_rule (with_rule (with_rule (with_rule (with_rule (new_app (codes "audit")) json_option) chain_option) quiet_option)
+    (flag_option (codes "progress"))) least_option) files_argument
 
 -- the command `explain`, with its options and file
 abbrev pub explain_app : App
@@ -107,16 +115,29 @@ abbrev pub input_of : Option Text → Option Text
 input_of None = None
 input_of (Some name) = named_file name
 
--- the number that a text is, or 0 where it is none below 256, or there is none
+-- the number that a text is, or 0 where it is none of so many bits, or there is none
+abbrev pub IsNumberOf : ℕ → Option Text → ℕ → Type 0
+IsNumberOf bits None number = number ≡ 0
+IsNumberOf bits (Some text) number =
+    ParsesUnsigned {E = Unit {0}} bits 10 text (Ok number) ⊎ ((number ≡ 0) × ParsesUnsigned {E = Unit {0}} bits 10 text (Err tt))
+
+-- the number of a replica
 abbrev pub IsReplica : Option Text → ℕ → Type 0
-IsReplica None replica = replica ≡ 0
-IsReplica (Some text) replica = ParsesUnsigned {E = Unit {0}} 8 10 text (Ok replica) ⊎ ((replica ≡ 0) × ParsesUnsigned {E = Unit {0}} 8 10 text (Err tt))
+IsReplica text replica = IsNumberOf 8 text replica
 
 -- whether a flag was given, as clap says it: it has the value `true`, else `false`
 pub record IsFlag (given : Option Text) (flag : Bool) : Type 0 where
   pub none : given ≡ None → flag ≡ false
   pub yes : given ≡ Some (codes "true") → flag ≡ true
   pub no : given ≡ Some (codes "false") → flag ≡ false
+
+-- so many calls are to overlap
+abbrev pub IsLeast : List Row → ℕ → Type 0
+IsLeast rows least = IsNumberOf 32 (one_of (codes "least-overlap") rows) least
+
+-- some are
+abbrev pub AsksOverlap : List Row → Type 0
+AsksOverlap rows = (least : ℕ) × IsLeast rows least × (0 < least)
 
 -- no more than one file was named, and this is the input
 abbrev pub HasOneInput : List Row → Option (Bor Text) → Type 0
@@ -129,21 +150,23 @@ HasSeveralFiles rows = (names : List Text) × (all_of (codes "file") rows ≡ So
 
 -- the files that were named ask for an audit of one trace, or, where they are several, of each
 abbrev pub AsksTraces : List Row → Inspection → Type 0
-AsksTraces rows (One (Audit as_json) input) = IsFlag (one_of (codes "json") rows) as_json × HasOneInput rows input
-AsksTraces rows (Each as_json names) = IsFlag (one_of (codes "json") rows) as_json × (all_of (codes "file") rows ≡ Some (map (λ name. name.now) names.items)) × (2 ≤ length names.items)
+AsksTraces rows (One (Audit as_json least) input) =
+    IsFlag (one_of (codes "json") rows) as_json × IsLeast rows least × HasOneInput rows input
+AsksTraces rows (Each as_json names) = IsFlag (one_of (codes "json") rows) as_json × IsLeast rows 0
+    × (all_of (codes "file") rows ≡ Some (map (λ name. name.now) names.items)) × (2 ≤ length names.items)
 AsksTraces rows _ = ⊥
 
 -- what was given with `audit` asks for this: with --chain for an audit of one chain
 abbrev pub AsksAudit : List Row → Inspection → Type 0
-AsksAudit rows (One (AuditChain style watched) input) = IsFlag (one_of (codes "chain") rows) true × IsFlag (one_of (codes "quiet") rows) style.quiet
-    × IsFlag (one_of (codes "json") rows) style.as_json × IsFlag (one_of (codes "progress") rows) watched × HasOneInput rows input
+AsksAudit rows (One (AuditChain style watched least) input) = IsFlag (one_of (codes "chain") rows) true × IsFlag (one_of (codes "quiet") rows) style.quiet
+    × IsFlag (one_of (codes "json") rows) style.as_json × IsFlag (one_of (codes "progress") rows) watched × IsLeast rows least × HasOneInput rows input
 AsksAudit rows inspection = IsFlag (one_of (codes "chain") rows) false × IsFlag (one_of (codes "quiet") rows) false
     × IsFlag (one_of (codes "progress") rows) false × AsksTraces rows inspection
 
--- it is misused, though clap has nothing against it: more than one chain is named, or it is to be quiet of no chain, or to show how far it
--- has come with none
+-- it is misused, though clap has nothing against it: more than one chain is named, or more than one trace of which calls are to overlap; or it
+-- is to be quiet of no chain, or to show how far it has come with none
 abbrev pub IsMisuse : List Row → ErrorKind → Type 0
-IsMisuse rows kind.TooManyValues = IsFlag (one_of (codes "chain") rows) true × HasSeveralFiles rows
+IsMisuse rows kind.TooManyValues = (IsFlag (one_of (codes "chain") rows) true ⊎ AsksOverlap rows) × HasSeveralFiles rows
 IsMisuse rows kind.MissingRequiredArgument = IsFlag (one_of (codes "chain") rows) false
     × (IsFlag (one_of (codes "quiet") rows) true ⊎ IsFlag (one_of (codes "progress") rows) true)
 IsMisuse rows _ = ⊥

@@ -1,17 +1,17 @@
 //! What the words of `audit`, `explain`, `resolve` and `pages` ask for.
 
-ghost use Rattle.std.specs.Prelude.{◌≡◌, ◌⊎◌, ◌∷◌, [], IfErr, IfOk, IsSomeAnd, codes, false, option_map};
+ghost use Rattle.std.specs.Prelude.{◌≡◌, ◌⊎◌, ◌∷◌, [], IfErr, IfOk, IsSomeAnd, codes, false, option_map, true};
 ghost use Rattle.clap.specs.Walk.{one_of};
 ghost use Rattle.clap.specs.Words.{first_of, found_of, kind_of, rows_of, subcommand_rows_of, HasKind};
 ghost use Rattle.audit_commands.specs.Words.{AsksAudit, AsksExplain, AsksInspection, AsksPages, AsksResolve, AsksTraces};
-ghost use Rattle.audit_commands.specs.Words.{IsFlag, IsMisuse, IsMisused, IsPagesMisuse, IsPoint, IsPointMisuse};
+ghost use Rattle.audit_commands.specs.Words.{IsFlag, IsLeast, IsMisuse, IsMisused, IsPagesMisuse, IsPoint, IsPointMisuse};
 ghost use Rattle.audit_commands.specs.Words.{input_of, named_file};
 
 use crate::task::{ChainPoint, Task};
 use audit_texts::Style;
 use clap::error::ErrorKind;
 use clap::{ArgMatches, Command, Error};
-use std::alloc::{AllocError, Global};
+use std::alloc::Global;
 
 /// What the words of `audit`, `explain`, `resolve` or `pages` ask for.
 #[derive(Debug, Drop)]
@@ -40,20 +40,71 @@ fn input_of<'a>(given: &ArgMatches<'a>) -> Option<&'a str>
     }
 }
 
-/// The audit of one trace or of several that was asked for.
-fn read_traces<'a>(alloc: Global, given: &ArgMatches<'a>) -> Result<Inspection<'a>, AllocError>
-    ensures { IfOk result (AsksTraces (rows_of (found_of given.now))) }
+/// How many calls are to overlap.
+fn read_least(given: &ArgMatches<'_>) -> u32
+    ensures { IsLeast (rows_of (found_of given.now)) result }
+{
+    given.get_one::<u32>("least-overlap").unwrap_or(0)
+}
+
+/// The audit of one trace or of several that was asked for; of one so that so many calls overlap.
+fn read_traces<'a>(
+    alloc: Global,
+    line: &mut Command<'a>,
+    given: &ArgMatches<'a>,
+    least: u32,
+) -> Result<Inspection<'a>, Error>
+    requires { IsLeast (rows_of (found_of given.now)) least }
+    ensures asks { IfOk result (AsksTraces (rows_of (found_of given.now))) }
+    ensures misused { IfErr result (λ error. (kind_of error ≡ ErrorKind.OutOfMemory)
+        ⊎ IsMisuse (rows_of (found_of given.now)) (kind_of error)) }
 {
     let as_json = is_given(given, "json");
     match given.get_raw("file") {
         Some(names) => {
             if 1 < names.len() {
+                if least > 0 {
+                    let several = line.error(
+                        ErrorKind::TooManyValues,
+                        "--least-overlap is for one file",
+                    )?;
+                    return Err(several);
+                }
                 let names = Vec::from_slice(alloc, names)?;
                 return Ok(Inspection::Each(as_json, names));
             }
-            Ok(Inspection::One(Task::Audit(as_json), input_of(given)))
+            Ok(Inspection::One(Task::Audit(as_json, least), input_of(given)))
         }
-        None => Ok(Inspection::One(Task::Audit(as_json), input_of(given))),
+        None => Ok(Inspection::One(Task::Audit(as_json, least), input_of(given))),
+    }
+}
+
+/// The audit of one chain that was asked for, where the files that were named would ask for this without `--chain`.
+fn read_chain<'a>(
+    line: &mut Command<'a>,
+    given: &ArgMatches<'a>,
+    asked: Inspection<'a>,
+    least: u32,
+) -> Result<Inspection<'a>, Error>
+    requires chain { IsFlag (one_of (codes "chain") (rows_of (found_of given.now))) true }
+    requires asked { AsksTraces (rows_of (found_of given.now)) asked }
+    requires least { IsLeast (rows_of (found_of given.now)) least }
+    ensures asks { IfOk result (AsksAudit (rows_of (found_of given.now))) }
+    ensures misused { IfErr result (λ error. (kind_of error ≡ ErrorKind.OutOfMemory)
+        ⊎ IsMisuse (rows_of (found_of given.now)) (kind_of error)) }
+{
+    match asked {
+        Inspection::One(_, input) => {
+            let as_json = is_given(given, "json");
+            let quiet = is_given(given, "quiet");
+            let watched = is_given(given, "progress");
+            let style = Style { as_json, quiet };
+            return Ok(Inspection::One(Task::AuditChain(style, watched, least), input));
+        }
+        _ => {
+            let several = line.error(ErrorKind::TooManyValues, "one chain is audited at a time")?;
+            return Err(several);
+        }
     }
 }
 
@@ -61,8 +112,8 @@ fn read_traces<'a>(alloc: Global, given: &ArgMatches<'a>) -> Result<Inspection<'
 ///
 /// # Errors
 ///
-/// `TooManyValues` where several chains are named, `MissingRequiredArgument` where it is to be quiet of no chain, or to show how far it has
-/// come with none; out of memory.
+/// `TooManyValues` where several chains are named, or several traces of which calls are to overlap; `MissingRequiredArgument` where it is to
+/// be quiet of no chain, or to show how far it has come with none; out of memory.
 fn read_audit<'a>(
     alloc: Global,
     line: &mut Command<'a>,
@@ -72,33 +123,19 @@ fn read_audit<'a>(
     ensures misused { IfErr result (λ error. (kind_of error ≡ ErrorKind.OutOfMemory)
         ⊎ IsMisuse (rows_of (found_of given.now)) (kind_of error)) }
 {
-    let asked = read_traces(alloc, given)?;
-    let quiet = given.get_flag("quiet");
-    let watched = is_given(given, "progress");
-    if given.get_flag("chain") {
-        match asked {
-            Inspection::One(_, input) => {
-                let as_json = is_given(given, "json");
-                let style = Style { as_json, quiet };
-                return Ok(Inspection::One(Task::AuditChain(style, watched), input));
-            }
-            _ => {
-                let several = line.error(
-                    ErrorKind::TooManyValues,
-                    "one chain is audited at a time",
-                )?;
-                return Err(several);
-            }
-        }
+    let least = read_least(given);
+    let asked = read_traces(alloc, line, given, least)?;
+    if is_given(given, "chain") {
+        return read_chain(line, given, asked, least);
     }
-    if quiet {
+    if is_given(given, "quiet") {
         let alone = line.error(
             ErrorKind::MissingRequiredArgument,
             "--quiet is for --chain alone",
         )?;
         return Err(alone);
     }
-    if watched {
+    if is_given(given, "progress") {
         let unchained = line.error(
             ErrorKind::MissingRequiredArgument,
             "--progress is for --chain alone",

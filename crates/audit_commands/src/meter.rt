@@ -2,13 +2,14 @@
 
 use crate::diagnostics::Diagnostics;
 use crate::progress_line::Distance;
-use audit_readers::{Progress, write_text};
+use audit_readers::{Met, Progress, Totals, write_text};
 use std::alloc::{AllocError, Global};
 use std::io::{self, Write};
 use std::rt::Clock;
 use std::time::Instant;
 
-/// Standard error. If it is a terminal, it can show how far the audit of a chain has come: a line that is written over once a second.
+/// Standard error. If it is a terminal, it can show how far the audit of a chain has come: a line that is written over once a second. At the
+/// end it shows there what is counted of the right traces or of the right chain.
 #[derive(Drop)]
 pub struct Meter<C, E> {
     alloc: Global,
@@ -22,6 +23,8 @@ pub struct Meter<C, E> {
     /// How many seconds after that it was shown last; 0 if nothing is shown.
     shown: u64,
     come: Distance,
+    /// How much the right traces or the right chain have, if there is one.
+    counted: Option<Totals>,
 }
 
 impl<C: Clock, E: Write> Meter<C, E> {
@@ -40,6 +43,7 @@ impl<C: Clock, E: Write> Meter<C, E> {
                 segments: 0,
                 calls: 0,
             },
+            counted: None,
         }
     }
 
@@ -54,6 +58,56 @@ impl<C: Clock, E: Write> Meter<C, E> {
         self.shown = seconds;
         if let Ok(line) = self.line(seconds) {
             let _ = write_text(&mut self.errors, line.as_bytes());
+        }
+    }
+
+    /// How many calls there are, and how many of these overlap; of a chain also how many touches were open beside an update.
+    fn counts_line(&self, totals: Totals) -> Result<String, AllocError> {
+        let (calls, overlapping) = (totals.calls, totals.met.overlapping);
+        if self.come.segments == 0 {
+            return format!(in self.alloc; "{calls} calls, {overlapping} overlapping\n");
+        }
+        let beside = totals.met.beside;
+        format!(in self.alloc;
+            "{calls} calls, {overlapping} overlapping, {beside} touches beside an update\n"
+        )
+    }
+
+    /// What excuses the touches of a right chain.
+    fn excuses_line(&self, met: Met) -> Result<String, AllocError> {
+        let Met {
+            since_open,
+            since_kept,
+            since_lagging,
+            repeated,
+            ..
+        } = met;
+        format!(in self.alloc;
+            "excuses: {since_open} open, {since_kept} kept, {since_lagging} lagging, {repeated} repeated\n"
+        )
+    }
+
+    /// Shows this line, if there was memory for it.
+    fn show_line(&mut self, line: Result<String, AllocError>) {
+        if let Ok(line) = line {
+            let _ = write_text(&mut self.errors, line.as_bytes());
+        }
+    }
+
+    /// Shows how much the right traces or the right chain have, on a terminal, if there is one; of a chain that was watched also what excuses its
+    /// touches.
+    fn show_counts(&mut self, watched: bool) {
+        let Some(counted) = self.counted.take() else {
+            return;
+        };
+        if !self.is_terminal {
+            return;
+        }
+        let line = self.counts_line(counted);
+        self.show_line(line);
+        if watched {
+            let line = self.excuses_line(counted.met);
+            self.show_line(line);
         }
     }
 
@@ -92,9 +146,20 @@ impl<C: Clock, E: Write> Progress for Meter<C, E> {
         self.come.calls = self.come.calls.saturating_add(calls as u64);
     }
 
+    fn wants_counts(&self) -> bool {
+        self.is_terminal
+    }
+
+    fn counted(&mut self, totals: Totals) {
+        let sums = self.counted.unwrap_or(Totals::none());
+        self.counted = Some(sums.plus(totals));
+    }
+
     fn end(&mut self) {
         self.clear();
+        let watched = self.begun.is_some();
         self.begun = None;
+        self.show_counts(watched);
     }
 }
 

@@ -2,6 +2,7 @@
 
 use crate::diagnostics::Diagnostics;
 use audit_readers::write_text;
+use itoa::Buffer;
 use std::alloc::{AllocError, Global};
 use std::io::Write;
 
@@ -11,6 +12,13 @@ const DIGITS: usize = 16;
 /// Writes a text to the errors, where they can be written to.
 pub(crate) fn try_text<E: Write>(text: &str, errors: &mut E) {
     let _ = write_text(errors, text.as_bytes());
+}
+
+/// Writes to the errors that fewer calls overlap than are asked for. It allocates no memory.
+pub(crate) fn tell_few<E: Write>(least: u32, errors: &mut E) {
+    try_text("fewer than ", errors);
+    try_text(Buffer::new().format(least), errors);
+    try_text(" calls overlapped\n", errors);
 }
 
 /// Writes a remark to the errors, on a line of its own: on a named file behind its name; on standard input only where the errors are a

@@ -10,7 +10,7 @@ use crate::diagnostics::Diagnostics;
 use crate::files::FilesByName;
 use crate::inspection::Inspection;
 use crate::refusal::{refused_status, tell_outcome};
-use crate::remarks::{remark, remark_address};
+use crate::remarks::{remark, remark_address, tell_few};
 use crate::task::Task;
 use audit_readers::{Input, ProgFault, Sink, named_audit_io};
 use std::alloc::Global;
@@ -32,8 +32,8 @@ fn remark_form<R, E: Diagnostics>(
     }
 }
 
-/// Does the task on an input, and says on the errors why it has no answer, and what the input is, if it is none of those that the task
-/// reads. The size is that of an input that is watched.
+/// Does the task on an input, and says on the errors why it has no answer, that fewer calls overlap than are asked for, and what the input
+/// is, if it is none of those that the task reads. The size is that of an input that is watched.
 fn run_task<R: Read, W: Sink, E: Diagnostics>(
     alloc: Global,
     task: Task<'_>,
@@ -52,6 +52,9 @@ fn run_task<R: Read, W: Sink, E: Diagnostics>(
     let outcome = task.run(alloc, input, output, errors);
     errors.end();
     let _ = tell_outcome(alloc, &outcome, name, input.error(), &*output, errors);
+    if matches!(outcome, Ok(2)) {
+        tell_few(task.least(), errors);
+    }
     if let (Err(ProgFault::BadAddress), Some(word)) = (&outcome, task.word()) {
         remark_address(alloc, name, word, errors);
     }
@@ -108,11 +111,17 @@ fn write_own_line<R: Read, W: Sink, E: Diagnostics>(
         (W.contents output.old) (W.contents output.new)) }
     ensures alone { WritesAnswersAlone output.old output.new result }
 {
-    let outcome = named_audit_io(alloc, input, output, name, as_json);
+    let outcome = named_audit_io(alloc, input, output, name, as_json, errors);
     if !matches!(outcome, Err(ProgFault::CannotWrite)) {
         let _ = tell_outcome(alloc, &outcome, Some(name), input.error(), &*output, errors);
     }
-    remark_form(Task::Audit(as_json), &outcome, Some(name), &*input, errors);
+    remark_form(
+        Task::Audit(as_json, 0),
+        &outcome,
+        Some(name),
+        &*input,
+        errors,
+    );
     outcome
 }
 
@@ -190,8 +199,8 @@ fn audit_each<F: FilesByName, R: Read, W: Sink, E: Diagnostics>(
 }
 
 /// Makes the inspection, of standard input or of the files that are named. If there is no answer, the reason is written to the errors, as
-/// `tell_outcome` says, and then what else helps a person, as `remark` says. How far the audit of a chain has come is shown there too. The
-/// files are taken one after the other, each in the memory that its task needs.
+/// `tell_outcome` says, and then what else helps a person, as `remark` says. How far the audit of a chain has come is shown there too, and
+/// how much the right traces have. The files are taken one after the other, each in the memory that its task needs.
 ///
 /// # Errors
 ///
@@ -217,6 +226,7 @@ pub fn run_inspection<F: FilesByName, R: Read, W: Sink, E: Diagnostics>(
         Inspection::Each(as_json, names) => {
             let names = names.as_slice();
             let outcome = audit_each(files, alloc, as_json, names, input, output, errors);
+            errors.end();
             let _ = tell_outcome(alloc, &outcome, None, None, &*output, errors);
             outcome
         }

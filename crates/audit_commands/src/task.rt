@@ -26,16 +26,16 @@ pub enum ChainPoint {
 /// What can be asked of one trace or of one chain.
 #[derive(Clone, Copy, Debug)]
 pub enum Task<'a> {
-    /// Judge a trace; as JSON.
-    Audit(bool),
+    /// Judge a trace; as JSON; and the least number of its calls that are to overlap.
+    Audit(bool, u32),
     /// Judge it, and show the evidence of its fault; as JSON; and what is wrong with the other dumps.
     Explain(bool, bool),
     /// Walk at this address, as the command line spells it, in the dump of this replica; and list the entries that are read.
     Resolve(&'a str, u8, bool),
     /// List the pages of the dump of this replica; and as ranges.
     Pages(u8, bool),
-    /// Judge a chain; how that is printed; and show how far it has come.
-    AuditChain(Style, bool),
+    /// Judge a chain; how that is printed; show how far it has come; and the least number of its calls that are to overlap.
+    AuditChain(Style, bool, u32),
     /// Judge it, and show the evidence of its first fault, or how much it has; as JSON.
     ExplainChain(bool),
     /// List the pages at this point of it; and as ranges.
@@ -58,7 +58,7 @@ impl<'a> Task<'a> {
     fn reads_chain(&self) -> bool {
         matches!(
             self,
-            Task::AuditChain(_, _) | Task::ExplainChain(_) | Task::PagesOfChain(_, _)
+            Task::AuditChain(_, _, _) | Task::ExplainChain(_) | Task::PagesOfChain(_, _)
         )
     }
 
@@ -76,12 +76,21 @@ impl<'a> Task<'a> {
         }
     }
 
-    /// Whether it is to be shown how far it has come.
-    pub(crate) fn is_watched(&self) -> bool {
-        matches!(self, Task::AuditChain(_, true))
+    /// How many calls of a right trace or chain are to overlap.
+    pub(crate) fn least(&self) -> u32 {
+        match self {
+            Task::Audit(_, least) | Task::AuditChain(_, _, least) => *least,
+            _ => 0,
+        }
     }
 
-    /// Does the task on the input, and gives the exit status. The progress gets how far the audit of a chain has come.
+    /// Whether it is to be shown how far it has come.
+    pub(crate) fn is_watched(&self) -> bool {
+        matches!(self, Task::AuditChain(_, true, _))
+    }
+
+    /// Does the task on the input, and gives the exit status. The progress gets how far the audit of a chain has come, and how much a right
+    /// trace or chain has.
     ///
     /// # Errors
     ///
@@ -100,14 +109,18 @@ impl<'a> Task<'a> {
             (R.remaining reader.new) (R.last_read reader.new) result }
     {
         match self {
-            Task::Audit(as_json) => audit_io(alloc, reader, writer, as_json),
+            Task::Audit(as_json, least) => {
+                audit_io(alloc, reader, writer, as_json, least, progress)
+            }
             Task::Explain(as_json, false) => explain_io(alloc, reader, writer, as_json),
             Task::Explain(as_json, true) => explain_all_io(alloc, reader, writer, as_json),
             Task::Resolve(address, replica, with_steps) => {
                 resolve_io(alloc, reader, writer, address, replica, with_steps)
             }
             Task::Pages(replica, as_ranges) => pages_io(alloc, reader, writer, replica, as_ranges),
-            Task::AuditChain(style, _) => audit_chain_io(alloc, reader, writer, style, progress),
+            Task::AuditChain(style, _, least) => {
+                audit_chain_io(alloc, reader, writer, style, least, progress)
+            }
             Task::ExplainChain(as_json) => explain_chain_io(alloc, reader, writer, as_json),
             Task::PagesOfChain(ChainPoint::Start, as_ranges) => {
                 chain_start_io(alloc, reader, writer, as_ranges)

@@ -2,7 +2,7 @@
 ghost use Rattle.std.specs.Prelude.{◌≡◌, false, IfOk};
 ghost use Rattle.clap.specs.Words.{App, app_of, rule_of, with_subcommand};
 ghost use Rattle.audit_commands.specs.Words.{address_option, audit_app, explain_app, file_argument, files_argument, flag_option, pages_app};
-ghost use Rattle.audit_commands.specs.Words.{replica_option, resolve_app, with_inspections, IsLocal};
+ghost use Rattle.audit_commands.specs.Words.{least_option, replica_option, resolve_app, with_inspections, IsLocal};
 
 use clap::{Arg, ArgAction, Command, value_parser};
 use std::alloc::{AllocError, Global};
@@ -65,6 +65,18 @@ fn replica<'a>(alloc: Global) -> Arg<'a>
         .help("The number of the replica whose dump is looked into")
 }
 
+/// How many calls are to overlap.
+fn least_overlap<'a>(alloc: Global) -> Arg<'a>
+    ensures rule { rule_of result ≡ least_option }
+    ensures local { result.global ≡ false }
+{
+    Arg::new(alloc, "least-overlap")
+        .long("least-overlap")
+        .value_parser(value_parser!(u32))
+        .default_value("0")
+        .help("Ends with status 2 if the answer is yes and fewer calls overlap another one")
+}
+
 /// The words of `audit`.
 fn audit<'a>(alloc: Global) -> Result<Command<'a>, AllocError>
     ensures app { IfOk result (λ command. app_of command ≡ audit_app) }
@@ -82,6 +94,7 @@ fn audit<'a>(alloc: Global) -> Result<Command<'a>, AllocError>
         .arg(flag(alloc, "chain", chain))?
         .arg(flag(alloc, "quiet", quiet))?
         .arg(flag(alloc, "progress", progress))?
+        .arg(least_overlap(alloc))?
         .arg(files(alloc))
 }
 

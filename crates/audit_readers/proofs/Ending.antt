@@ -1,10 +1,11 @@
 -- What is said of the end of a chain that was judged.
-use Rattle.std.proofs.Common.{◌≡◌, ◌⊎◌, ℕ, ◌++◌, inl, inr, Bool, List, [], ◌∷◌, Option, Some, None, Result, Ok, Err, IfOk, refl, sym, ap, ◌∙◌, subst}
+use Rattle.std.proofs.Common.{◌≡◌, ◌⊎◌, ℕ, ◌++◌, inl, inr, Bool, false, List, [], ◌∷◌, Option, Some, None, Result, Ok, Err, IfOk, refl, sym, ap, ◌∙◌, subst}
 use Rattle.vs_types.specs.Space.{Space, pages, IsSpace}
 use Rattle.vs_types.specs.declared.depth.Depth.{Depth}
 use Rattle.vs_plain.specs.Plain.{BoundedSpace}
 use Rattle.nr_joined.specs.Run.{Run, end_of}
 use Rattle.nr_audit.specs.Segments.{run_after}
+use Rattle.nr_audit.specs.declared.met.Totals.{Totals}
 use Rattle.nr_chain.specs.Bytes.{EndsWith}
 use Rattle.nr_chain.specs.Parts.{ComesTo}
 use Rattle.nr_chain.specs.Verdict.{IsSpaceAfter}
@@ -14,7 +15,7 @@ use Rattle.nr_chain.proofs.FoundChains.{right_chain}
 use Rattle.audit_readers.specs.Answers.{IsReadOf}
 use Rattle.audit_readers.specs.ChainPages.{IsChainEnd}
 use Rattle.audit_texts.specs.ChainText.{end_lines, quiet_lines}
-use Rattle.audit_readers.specs.inside.Going.{GoesOnTo}
+use Rattle.audit_readers.specs.inside.Going.{totals_if, GoesOnTo}
 use Rattle.audit_readers.specs.inside.Judged.{HasJudged, IsTextAfter, SaysEnd, SaysFault, SaysPages}
 use Rattle.audit_readers.specs.declared.chain.audit.Judged.{Judged}
 use Rattle.audit_readers.specs.declared.chain.audit.Judged.TheVariants.{Ended, Faulty}
@@ -22,12 +23,12 @@ use Rattle.audit_readers.proofs.Going.{ended, lasting}
 use Rattle.audit_readers.proofs.Inputs.{whole_read, whole_with}
 
 -- right segments to the end of the bytes come to what is kept of the last
-comes_to : (kept last : Option Run) (bytes rest : List ℕ) (orders : List (List ℕ)) (end : Run) → GoesOnTo kept bytes orders last rest
-    → last ≡ Some end → rest ≡ []
+comes_to : (old new : Option Totals) (kept last : Option Run) (bytes rest : List ℕ) (orders : List (List ℕ)) (end : Run)
+    → GoesOnTo kept bytes orders last rest old new → last ≡ Some end → rest ≡ []
     → ComesTo kept bytes end
-comes_to kept last bytes rest [] end (same, is) there none = ([], (sym is ∙ none, sym same ∙ there))
-comes_to kept last bytes rest (order ∷ more) end (segment, behind, begins, sound, recorded, next) there none =
-    let (segments, spelled) = comes_to (Some (run_after kept segment)) last behind rest more end next there none in
+comes_to old new kept last bytes rest [] end (same, is, totals) there none = ([], (sym is ∙ none, sym same ∙ there))
+comes_to old new kept last bytes rest (order ∷ more) end (segment, behind, begins, sound, recorded, met, counted, has, next) there none =
+    let (segments, spelled) = comes_to (totals_if old order met) new (Some (run_after kept segment)) last behind rest more end next there none in
     (segment ∷ segments, (behind, begins, spelled))
 
 none_left : (kept : Option Run) (bytes : List ℕ) → EndsWith kept bytes None → bytes ≡ []
@@ -59,9 +60,9 @@ no_pages as_ranges (Some run) text after = absurd after
 
 -- what is said of a chain that was judged is said of its bytes
 pub said_of_end : (as_ranges : Bool) (known left old now : Option (List ℕ)) (judged : Judged) (text : List ℕ) (status : ℕ)
-    → HasJudged quiet_lines known left old now judged → SaysEnd as_ranges judged text status
+    → HasJudged quiet_lines false known left old now judged → SaysEnd as_ranges judged text status
     → (input : List ℕ) × IsReadOf known input × IsChainEnd as_ranges input text status
-said_of_end as_ranges known left old now (Ended chain count) text status (run, kept, here, end) says = by_end (says run kept) where
+said_of_end as_ranges known left old now (Ended chain count totals) text status (run, kept, here, end) says = by_end (says run kept) where
   by_end : SaysPages as_ranges run chain.bytes text status ⊎ ((fault : Fault) × EndsWith run chain.bytes (Some fault) × SaysFault count fault text status)
       → (input : List ℕ) × IsReadOf known input × IsChainEnd as_ranges input text status
   by_end (inl says) = (
@@ -69,10 +70,10 @@ said_of_end as_ranges known left old now (Ended chain count) text status (run, k
     whole_read known left here.read here.consumed end,
     inl record {
       orders = here.orders;
-      goes_on = ended None run here.read chain.bytes here.orders None here.goes_on says.ends;
-      right = right_chain here.read here.orders (ended None run here.read chain.bytes here.orders None here.goes_on says.ends);
+      goes_on = ended _ _ None run here.read chain.bytes here.orders None here.goes_on says.ends;
+      right = right_chain here.read here.orders (ended _ _ None run here.read chain.bytes here.orders None here.goes_on says.ends);
       last = says.last;
-      comes = comes_to None run here.read chain.bytes here.orders says.last here.goes_on says.last_is
+      comes = comes_to _ _ None run here.read chain.bytes here.orders says.last here.goes_on says.last_is
           (none_left run chain.bytes says.ends);
       is_space = says.is_space;
       text_is = says.text_is;
@@ -86,13 +87,13 @@ said_of_end as_ranges known left old now (Ended chain count) text status (run, k
       here.orders,
       record {
         fault = fault;
-        goes_on = ended None run here.read chain.bytes here.orders (Some fault) here.goes_on ends;
+        goes_on = ended _ _ None run here.read chain.bytes here.orders (Some fault) here.goes_on ends;
         text_is = says.text_is ∙ ap (λ n. end_lines n (Some fault)) here.counted;
         status_is = says.status_is;
       },
     ),
   )
-said_of_end as_ranges known left old now (Faulty count fault) text status (last, rest, here, lasts, some) says =
+said_of_end as_ranges known left old now (Faulty count fault) text status (last, rest, totals, here, lasts, some) says =
     let (behind, is) = whole_with known left here.read here.consumed in (
       here.read ++ behind,
       is,
@@ -100,7 +101,7 @@ said_of_end as_ranges known left old now (Faulty count fault) text status (last,
         here.orders,
         record {
           fault = fault;
-          goes_on = lasting last here.read rest behind here.orders fault here.goes_on lasts some;
+          goes_on = lasting _ _ last here.read rest behind here.orders fault here.goes_on lasts some;
           text_is = says.text_is ∙ ap (λ n. end_lines n (Some fault)) here.counted;
           status_is = says.status_is;
         },

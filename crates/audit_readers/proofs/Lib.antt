@@ -9,3 +9,4 @@ pub mod Beginning
 pub mod Ending
 pub mod PagesLaws
 pub mod Explaining
+pub mod Audits

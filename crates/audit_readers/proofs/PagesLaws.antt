@@ -3,6 +3,7 @@ use Rattle.std.proofs.Common.{◌≡◌, ℕ, ◌++◌, inl, inr, Bool, List, []
 use Rattle.vs_types.specs.Config.{Layout}
 use Rattle.vs_types.specs.Space.{pages, IsSpace}
 use Rattle.nr_trace.specs.Recording.{Recording}
+use Rattle.nr_audit.specs.Met.{no_totals}
 use Rattle.nr_audit.specs.Start.{first_space}
 use Rattle.nr_trace.specs.declared.fault.Fault.{Fault}
 use Rattle.nr_audit.proofs.FirstFaults.{one_first_after}
@@ -155,12 +156,15 @@ module _ (as_ranges : Bool) (front back text : List ℕ) (status same : ℕ) (en
 
 -- ---- a chain that is refused
 
-pub told_as_audited : (orders : List (List ℕ)) (bytes text : List ℕ) (status : ℕ) → TellsFault orders bytes text status → IsChainAudit quiet_lines bytes text status
-told_as_audited orders bytes text status tells = record {
+pub told_as_audited : (orders : List (List ℕ)) (bytes text : List ℕ) (status least : ℕ) → TellsFault orders bytes text status
+    → IsChainAudit quiet_lines least bytes text status
+told_as_audited orders bytes text status least tells = record {
   orders = orders;
   found = Some tells.fault;
   goes_on = tells.goes_on;
   right = λ none. absurd (let wrong : Some tells.fault ≡ None = none in cc);
+  totals = no_totals;
+  counted = λ counts none. absurd (let wrong : Some tells.fault ≡ None = none in cc);
   text_is = tells.text_is;
   status_is = tells.status_is;
 }

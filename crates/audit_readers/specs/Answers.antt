@@ -1,5 +1,6 @@
 -- What the commands answer to bytes: a text and a status.
-use Rattle.std.specs.Prelude.{◌≡◌, ◌≤◌, ◌+◌, ◌⊎◌, ◌++◌, ℕ, Bool, true, false, List, flat_map, length, Option, Some, IfSome, Result, slice_get}
+use Rattle.std.specs.Prelude.{◌≡◌, ◌≤◌, ◌+◌, ◌⊎◌, ◌++◌, ℕ, Bool, true, false, List, flat_map, length, nat_lt, Option, Some, IfSome, Result, slice_get}
+use Rattle.std.specs.Prelude.{if◌then◌else◌}
 use Rattle.std.specs.Io.KnownBytes.{Appends, Consumes}
 use Rattle.vs_types.specs.Depth.{IsCanonical, levels}
 use Rattle.vs_types.specs.declared.depth.Depth.{Depth}
@@ -15,7 +16,9 @@ use Rattle.nr_trace.specs.declared.fault.Fault.TheVariants as faults
 use Rattle.nr_audit.specs.Headline.{AreRightWith}
 use Rattle.nr_audit.specs.Verdict.{IfYes, IsVerdictOf, verdict_status}
 use Rattle.nr_audit.specs.declared.verdict.Verdict.{Verdict}
+use Rattle.nr_audit.specs.declared.verdict.Verdict.TheVariants.{Yes, No}
 use Rattle.nr_explain.specs.Facts.{entries_read}
+use Rattle.nr_audit.specs.Meetings.{overlapping}
 use Rattle.nr_explain.specs.Units.{ReadsUnits}
 use Rattle.nr_explain.specs.declared.units.Unread.{Unread}
 use Rattle.audit_texts.specs.AuditJson.{named_verdict, told_verdict}
@@ -23,20 +26,34 @@ use Rattle.audit_texts.specs.Text.{no_text, walk_text}
 use Rattle.audit_texts.specs.EvidenceText.{step_line}
 use Rattle.vs_text.specs.Words.{SpellsAddress}
 
--- the answer of `audit`: the text and the status are those of the verdict of these bytes; where it is yes they are right with its order
-pub record IsAudit (as_json : Bool) (bytes text : List ℕ) (status : ℕ) : Type 0 where
+-- so many answered updates and reads of the trace that the bytes spell overlap another one
+abbrev pub HasOverlapping : List ℕ → ℕ → Type 0
+HasOverlapping bytes count = (trace : Recording) × Spells bytes trace × (count ≡ overlapping trace)
+
+-- 0 where the trace is right, but 2 where fewer of its calls overlap than are asked for; 1 where it is wrong
+abbrev pub audit_status : ℕ → Verdict → ℕ → ℕ
+audit_status least (Yes order) count = if nat_lt count least then 2 else 0
+audit_status least (No fault) count = 1
+
+-- the answer of `audit`, which asks for so many overlapping calls: the text and the status are those of the verdict of these bytes; where it is
+-- yes they are right with its order, and so many of their calls overlap
+pub record IsAudit (as_json : Bool) (least : ℕ) (bytes text : List ℕ) (status : ℕ) : Type 0 where
   pub verdict : Verdict
+  pub count : ℕ
   pub is_verdict : IsVerdictOf bytes verdict
   pub right : IfYes (AreRightWith bytes) verdict
-  pub text_is : text ≡ told_verdict as_json verdict
-  pub status_is : status ≡ verdict_status verdict
+  pub counted : IfYes (λ order. HasOverlapping bytes count) verdict
+  pub text_is : text ≡ told_verdict as_json verdict count
+  pub status_is : status ≡ audit_status least verdict count
 
 -- the answer of `audit` for one file of several: the line with the file's name of the verdict of these bytes
 pub record IsNamedAudit (as_json : Bool) (name bytes text : List ℕ) (status : ℕ) : Type 0 where
   pub verdict : Verdict
+  pub count : ℕ
   pub is_verdict : IsVerdictOf bytes verdict
   pub right : IfYes (AreRightWith bytes) verdict
-  pub text_is : text ≡ named_verdict as_json name verdict
+  pub counted : IfYes (λ order. HasOverlapping bytes count) verdict
+  pub text_is : text ≡ named_verdict as_json name verdict count
   pub status_is : status ≡ verdict_status verdict
 
 -- the end of the walk of an address in a dump, and with steps the entries that it reads

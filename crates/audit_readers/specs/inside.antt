@@ -1,5 +1,6 @@
--- What the engines of chains go through. No public clause cites these.
+-- What the engines go through. No public clause cites these.
 pub mod Going
 pub mod Judged
 pub mod Begun
 pub mod Explaining
+pub mod Found

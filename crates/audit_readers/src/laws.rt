@@ -48,9 +48,9 @@ pub fn parts_with_equal_ends_are_right_as_one()
 
 /// For a chain that is refused the last lines of its audit are printed.
 pub fn refused_chains_are_told_as_audited()
-    ensures { (orders : List (List ℕ)) (bytes text : List ℕ) (status : ℕ)
+    ensures { (orders : List (List ℕ)) (bytes text : List ℕ) (status least : ℕ)
         → TellsFault orders bytes text status
-        → IsChainAudit quiet_lines bytes text status }
+        → IsChainAudit quiet_lines least bytes text status }
 {}
 
 /// The fault that is named of a dump is one that the trace has, in the words of the audit.

@@ -18,7 +18,7 @@ mod sink;
 mod source;
 mod unit_input;
 
-pub use audit::{audit_io, audit_read, named_audit_io, named_audit_read};
+pub use audit::{audit_io, audit_read, named_audit_io};
 pub use chain::audit::{MOST_BLOCKS, audit_chain_io};
 pub use chain::explain::explain_chain_io;
 pub use chain::pages::{chain_end_io, chain_start_io};
@@ -26,6 +26,7 @@ pub use ends::{BLOCK, read_block, write_report, write_text};
 pub use explain::{explain_all_io, explain_io, explained_read, fully_explained_read};
 pub use fault::ProgFault;
 pub use form::Form;
+pub use nr_audit::{Met, Totals};
 pub use pages::{pages_io, pages_read};
 pub use progress::{Progress, Unwatched};
 pub use report::Report;

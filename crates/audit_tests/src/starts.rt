@@ -7,7 +7,7 @@ use crate::audit::trace_of;
 use crate::audit_cases::{
     Case, EMPTY, EMPTY_LATE, Event, MAPPED, NOT_MAPPED, PAGE_EARLY, RESOLVE, RIGHT, UNMAP,
 };
-use nr_audit::{Order, Past, judge_segment};
+use nr_audit::{Met, Order, Past, judge_segment};
 use nr_touch::Tail;
 use nr_trace::{Fault, Trace, read};
 use std::alloc::Global;
@@ -118,10 +118,10 @@ fn read_case(rt: &impl Abort, alloc: Global, case: &Case) -> Trace {
 fn expect_case(
     rt: &impl Abort,
     case: &Case,
-    judged: Result<(Order, Past), Fail<Fault>>,
+    judged: Result<(Order, Past, Option<Met>), Fail<Fault>>,
 ) -> Option<PlainSpace> {
     match judged {
-        Ok((order, past)) => {
+        Ok((order, past, _)) => {
             assert!(rt; Ok(order.calls()) == case.verdict, "{}", case.name);
             Some(past.space)
         }
@@ -140,7 +140,7 @@ fn begun_with_a_page(rt: HostRuntime) {
         let trace = read_case(&rt, alloc, case);
         let start = space_with_page(&rt, alloc, &trace);
         let before = past_of(alloc, &trace, start);
-        let judged = judge_segment(alloc, &trace, Some(before));
+        let judged = judge_segment(alloc, &trace, Some(before), false);
         if let Some(space) = expect_case(&rt, case, judged) {
             let pages = space.pages().expect(&rt, "memory");
             assert_eq!(&rt; pages.len(), *left, "{}", case.name);
@@ -162,8 +162,8 @@ fn after(
     ensures limit { result.limit ≡ trace.now.layout.tables }
 {
     let before = past_of(alloc, trace, start);
-    match judge_segment(alloc, trace, Some(before)) {
-        Ok((order, past)) => {
+    match judge_segment(alloc, trace, Some(before), false) {
+        Ok((order, past, _)) => {
             assert!(rt; order.calls() == calls);
             past.space
         }

@@ -4,6 +4,7 @@ use Rattle.serde_json.specs.Data.{object, put, string}
 use Rattle.serde_json.specs.View.{items_of}
 use Rattle.serde_json.specs.Written.{has_float, items_have_float}
 use Rattle.nr_trace.specs.declared.fault.Fault.{Fault}
+use Rattle.nr_audit.specs.declared.met.Totals.{Totals}
 use Rattle.nr_audit.specs.declared.verdict.Verdict.{Verdict}
 use Rattle.nr_audit.specs.declared.verdict.Verdict.TheVariants.{Yes, No}
 use Rattle.audit_texts.specs.AuditJson.{FaultNumber, addressed, counted, fault_number_data, fault_numbers}
@@ -17,18 +18,18 @@ numbers [] = refl
 numbers (counted number ∷ more) = numbers more
 numbers (addressed address ∷ more) = numbers more
 
-pub verdict_has_no_float : (verdict : Verdict) → has_float (object (verdict_members verdict)) ≡ false
-verdict_has_no_float (Yes order) = refl
-verdict_has_no_float (No fault) = ap one (numbers (fault_numbers fault))
+pub verdict_has_no_float : (verdict : Verdict) (overlapping : ℕ) → has_float (object (verdict_members verdict overlapping)) ≡ false
+verdict_has_no_float (Yes order) overlapping = refl
+verdict_has_no_float (No fault) overlapping = ap one (numbers (fault_numbers fault))
 
-pub named_has_no_float : (name : List ℕ) (verdict : Verdict)
-    → has_float (object (put (codes "file") (string name) (verdict_members verdict))) ≡ false
-named_has_no_float name (Yes order) = refl
-named_has_no_float name (No fault) = ap one (numbers (fault_numbers fault))
+pub named_has_no_float : (name : List ℕ) (verdict : Verdict) (overlapping : ℕ)
+    → has_float (object (put (codes "file") (string name) (verdict_members verdict overlapping))) ≡ false
+named_has_no_float name (Yes order) overlapping = refl
+named_has_no_float name (No fault) overlapping = ap one (numbers (fault_numbers fault))
 
 pub segment_has_no_float : (number calls : ℕ) → has_float (object (put (codes "segment") (number_data number) (right_members calls))) ≡ false
 segment_has_no_float number calls = refl
 
-pub end_has_no_float : (number : ℕ) (found : Option Fault) → has_float (object (end_members number found)) ≡ false
-end_has_no_float number None = refl
-end_has_no_float number (Some fault) = ap one (numbers (fault_numbers fault))
+pub end_has_no_float : (number : ℕ) (totals : Totals) (found : Option Fault) → has_float (object (end_members number totals found)) ≡ false
+end_has_no_float number totals None = refl
+end_has_no_float number totals (Some fault) = ap one (numbers (fault_numbers fault))

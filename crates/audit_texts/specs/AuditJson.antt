@@ -152,35 +152,42 @@ fault_members fault =
     (member (codes "numbers") (numbers_data (fault_numbers fault))
     (member (codes "verdict") (string (codes "no " ++ fault_text fault)) no_members)))
 
--- the members of a yes: how many calls its order has, and the line of the verdict
+-- the members of a right segment: how many calls its order has, and the line of the verdict
 abbrev pub right_members : ℕ → Members
 right_members calls =
     member (codes "calls") (number_data calls)
     (member (codes "verdict") (string (codes "yes")) no_members)
 
--- the members of a verdict
-abbrev pub verdict_members : Verdict → Members
-verdict_members (Yes order) = right_members (length order)
-verdict_members (No fault) = fault_members fault
+-- the members of a yes: how many calls its order has, how many of these overlap another one, and the line of the verdict
+abbrev pub yes_members : ℕ → ℕ → Members
+yes_members calls overlapping =
+    member (codes "calls") (number_data calls)
+    (member (codes "overlapping") (number_data overlapping)
+    (member (codes "verdict") (string (codes "yes")) no_members))
+
+-- the members of a verdict, where it is a yes and so many of its calls overlap another one
+abbrev pub verdict_members : Verdict → ℕ → Members
+verdict_members (Yes order) overlapping = yes_members (length order) overlapping
+verdict_members (No fault) overlapping = fault_members fault
 
 -- a value as JSON on a line, without spaces
 abbrev pub json_line : Data → List ℕ
 json_line data_of = compact_text data_of ++ line_end
 
 -- the line of JSON of a verdict
-abbrev pub verdict_json : Verdict → List ℕ
-verdict_json verdict = json_line (object (verdict_members verdict))
+abbrev pub verdict_json : Verdict → ℕ → List ℕ
+verdict_json verdict overlapping = json_line (object (verdict_members verdict overlapping))
 
 -- the line of JSON of the verdict on one of several files, which has the file's name too
-abbrev pub named_json : List ℕ → Verdict → List ℕ
-named_json name verdict = json_line (object (put (codes "file") (string name) (verdict_members verdict)))
+abbrev pub named_json : List ℕ → Verdict → ℕ → List ℕ
+named_json name verdict overlapping = json_line (object (put (codes "file") (string name) (verdict_members verdict overlapping)))
 
--- what is printed of a verdict: as JSON or as lines
-abbrev pub told_verdict : Bool → Verdict → List ℕ
-told_verdict true verdict = verdict_json verdict
-told_verdict false verdict = verdict_text verdict
+-- what is printed of a verdict: as JSON, for a yes with the number of its calls that overlap, or as lines
+abbrev pub told_verdict : Bool → Verdict → ℕ → List ℕ
+told_verdict true verdict overlapping = verdict_json verdict overlapping
+told_verdict false verdict overlapping = verdict_text verdict
 
 -- what is printed of the verdict on one of several files: as JSON, or the file's name, a colon and the first line
-abbrev pub named_verdict : Bool → List ℕ → Verdict → List ℕ
-named_verdict true name verdict = named_json name verdict
-named_verdict false name verdict = name ++ (codes ": " ++ verdict_line verdict)
+abbrev pub named_verdict : Bool → List ℕ → Verdict → ℕ → List ℕ
+named_verdict true name verdict overlapping = named_json name verdict overlapping
+named_verdict false name verdict overlapping = name ++ (codes ": " ++ verdict_line verdict)

@@ -11,7 +11,7 @@ use Rattle.nr_explain.specs.declared.trace.evidence.OtherAnswer.{OtherAnswer}
 use Rattle.nr_explain.specs.declared.trace.evidence.Difference.{Difference}
 use Rattle.nr_trace.specs.FirstFault.{unit_size}
 use Rattle.nr_trace.specs.declared.refusal.TraceUnit.{TraceUnit}
-use Rattle.nr_explain.specs.Progress.{sum_up}
+use Rattle.nr_audit.specs.Met.{sum_up}
 use Rattle.nr_explain.specs.declared.chain.evidence.Origin.{Origin}
 use Rattle.nr_explain.specs.declared.chain.evidence.Origin.TheVariants.{Nothing, Start, Earlier}
 use Rattle.nr_explain.specs.declared.chain.evidence.BadSegment.{BadSegment}
@@ -200,7 +200,11 @@ chain_counts_parts counts = words (codes "calls: ") ∷ in_both (codes "calls") 
     ∷ in_both (codes "dumps") (count counts.dumps) ∷ words (codes "\nreplicas: ") ∷ in_both (codes "replicas") (count counts.replicas)
     ∷ words (codes "\npages: ") ∷ in_both (codes "pages") (count counts.pages) ∷ words (codes "\noverlapping calls: ")
     ∷ in_both (codes "overlapping") (count counts.overlapping) ∷ words (codes "\ntouches beside an update: ")
-    ∷ in_both (codes "beside") (count counts.beside) ∷ words line_end ∷ []
+    ∷ in_both (codes "beside") (count counts.beside) ∷ words (codes "\ntouches right since an update was open: ")
+    ∷ in_both (codes "open") (count counts.since_open) ∷ words (codes "\nfaults by kept rights: ")
+    ∷ in_both (codes "kept") (count counts.since_kept) ∷ words (codes "\nfaults by a lagging table: ")
+    ∷ in_both (codes "lagging") (count counts.since_lagging) ∷ words (codes "\nmost of these by one thread at one address: ")
+    ∷ in_both (codes "repeated") (count counts.repeated) ∷ words line_end ∷ []
 
 -- the counts of a right chain, as lines
 abbrev pub chain_counts_lines : ChainCounts → List ℕ

@@ -1,8 +1,9 @@
 -- What the program prints of the segments of a chain: numbers in decimal, addresses in hexadecimal.
-use Rattle.std.specs.Prelude.{ℕ, ◌+◌, ◌++◌, Bool, true, false, List, [], ◌∷◌, codes, decimal, length, Option, None, Some, if◌then◌else◌}
+use Rattle.std.specs.Prelude.{ℕ, ◌+◌, ◌++◌, Bool, true, false, List, [], ◌∷◌, codes, decimal, length, nat_lt, Option, None, Some, if◌then◌else◌}
 use Rattle.audit_texts.specs.ChainJson.{end_json, segment_json}
 use Rattle.audit_texts.specs.Text.{fault_text, line_end, yes_text}
 use Rattle.audit_texts.specs.declared.chain.style.Style.{Style}
+use Rattle.nr_audit.specs.declared.met.Totals.{Totals}
 use Rattle.nr_trace.specs.declared.fault.Fault.{Fault}
 
 -- the style of a quiet audit: lines, and none of right segments
@@ -41,15 +42,15 @@ end_lines number None = codes "segments " ++ (decimal number ++ line_end)
 end_lines number (Some fault) = codes "segment " ++ (decimal number ++ (codes "\nno " ++ (fault_text fault ++ line_end)))
 
 -- what is printed at the end of a chain of which so many segments are right: JSON or lines
-abbrev pub told_end : Bool → ℕ → Option Fault → List ℕ
-told_end true number found = end_json number found
-told_end false number found = end_lines number found
+abbrev pub told_end : Bool → ℕ → Totals → Option Fault → List ℕ
+told_end true number totals found = end_json number totals found
+told_end false number totals found = end_lines number found
 
 -- all that is printed of a chain of which these segments are right, and then the next one has this fault, or none is left
-abbrev pub chain_text : Style → List (List ℕ) → Option Fault → List ℕ
-chain_text style orders found = shown_lines style 0 orders ++ told_end style.as_json (length orders) found
+abbrev pub chain_text : Style → List (List ℕ) → Totals → Option Fault → List ℕ
+chain_text style orders totals found = shown_lines style 0 orders ++ told_end style.as_json (length orders) totals found
 
--- 0 where the chain is right, else 1
-abbrev pub chain_status : Option Fault → ℕ
-chain_status None = 0
-chain_status (Some fault) = 1
+-- 0 where the chain is right, but 2 where fewer of its calls overlap than are asked for; else 1
+abbrev pub chain_status : ℕ → Totals → Option Fault → ℕ
+chain_status least totals None = if nat_lt totals.met.overlapping least then 2 else 0
+chain_status least totals (Some fault) = 1

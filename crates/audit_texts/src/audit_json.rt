@@ -7,7 +7,7 @@ ghost use Rattle.serde_json.specs.Written.{has_float};
 ghost use Rattle.vs_text.specs.Words.{hexadecimal};
 ghost use Rattle.audit_texts.specs.AuditJson.{addressed, counted, fault_code, fault_members, fault_name, fault_numbers, format_name};
 ghost use Rattle.audit_texts.specs.AuditJson.{format_numbers, json_line, named_json, named_verdict, numbers_data, right_members};
-ghost use Rattle.audit_texts.specs.AuditJson.{told_verdict, verdict_json, verdict_members};
+ghost use Rattle.audit_texts.specs.AuditJson.{told_verdict, verdict_json, verdict_members, yes_members};
 ghost use Rattle.audit_texts.specs.EvidenceJson.{number_data};
 ghost use Rattle.audit_texts.specs.Text.{verdict_line};
 
@@ -221,7 +221,7 @@ pub(crate) fn put_fault(
     put(members, alloc, "verdict", Value::String(verdict))
 }
 
-/// Puts how many calls an order has, and the line of the verdict.
+/// Puts how many calls the order of a right segment has, and the line of the verdict.
 pub(crate) fn put_right(
     members: &mut Members,
     alloc: Global,
@@ -234,12 +234,33 @@ pub(crate) fn put_right(
     put_text(members, alloc, "verdict", "yes")
 }
 
-fn put_verdict(members: &mut Members, alloc: Global, verdict: &Verdict) -> Result<(), AllocError>
+/// Puts how many calls the order of a right trace has, how many of them overlap another one, and the line of the verdict.
+fn put_yes(
+    members: &mut Members,
+    alloc: Global,
+    calls: usize,
+    overlapping: u64,
+) -> Result<(), AllocError>
     requires { members.old.entries ≡ [] }
-    ensures { OnOk result (members_view members.new.entries ≡ verdict_members verdict.now) }
+    ensures { OnOk result (members_view members.new.entries ≡ yes_members calls overlapping) }
+{
+    put(members, alloc, "calls", Value::from(calls))?;
+    put(members, alloc, "overlapping", Value::from(overlapping))?;
+    put_text(members, alloc, "verdict", "yes")
+}
+
+fn put_verdict(
+    members: &mut Members,
+    alloc: Global,
+    verdict: &Verdict,
+    overlapping: u64,
+) -> Result<(), AllocError>
+    requires { members.old.entries ≡ [] }
+    ensures { OnOk result (members_view members.new.entries
+        ≡ verdict_members verdict.now overlapping) }
 {
     match verdict {
-        Verdict::Yes(order) => put_right(members, alloc, order.calls().len()),
+        Verdict::Yes(order) => put_yes(members, alloc, order.calls().len(), overlapping),
         Verdict::No(fault) => put_fault(members, alloc, *fault),
     }
 }
@@ -255,38 +276,51 @@ pub(crate) fn json_line(alloc: Global, value: &Value) -> Result<String, AllocErr
 }
 
 /// The object of a verdict.
-fn verdict_value(alloc: Global, verdict: &Verdict) -> Result<Value, AllocError>
-    ensures { IfOk result (λ value. view value ≡ object (verdict_members verdict.now)) }
+fn verdict_value(alloc: Global, verdict: &Verdict, overlapping: u64) -> Result<Value, AllocError>
+    ensures { IfOk result (λ value. view value
+        ≡ object (verdict_members verdict.now overlapping)) }
 {
     let mut members = Map::new(alloc);
-    put_verdict(&mut members, alloc, verdict)?;
+    put_verdict(&mut members, alloc, verdict, overlapping)?;
     Ok(Value::Object(members))
 }
 
 /// The object of the verdict on the file of this name.
-fn named_value(alloc: Global, name: &str, verdict: &Verdict) -> Result<Value, AllocError>
+fn named_value(
+    alloc: Global,
+    name: &str,
+    verdict: &Verdict,
+    overlapping: u64,
+) -> Result<Value, AllocError>
     ensures { IfOk result (λ value. view value
-        ≡ object (with_member (codes "file") (string name.now) (verdict_members verdict.now))) }
+        ≡ object (with_member (codes "file") (string name.now)
+        (verdict_members verdict.now overlapping))) }
 {
     let mut members = Map::new(alloc);
-    put_verdict(&mut members, alloc, verdict)?;
+    put_verdict(&mut members, alloc, verdict, overlapping)?;
     put_text(&mut members, alloc, "file", name)?;
     Ok(Value::Object(members))
 }
 
 /// The line that `audit --json` prints of a verdict.
-fn verdict_json(alloc: Global, verdict: &Verdict) -> Result<String, AllocError>
-    ensures { IfOk result (λ text. string_bytes text ≡ verdict_json verdict.now) }
+fn verdict_json(alloc: Global, verdict: &Verdict, overlapping: u64) -> Result<String, AllocError>
+    ensures { IfOk result (λ text. string_bytes text ≡ verdict_json verdict.now overlapping) }
 {
-    let value = verdict_value(alloc, verdict)?;
+    let value = verdict_value(alloc, verdict, overlapping)?;
     json_line(alloc, &value)
 }
 
 /// The line that `audit --json` prints for one of several files.
-fn named_json(alloc: Global, name: &str, verdict: &Verdict) -> Result<String, AllocError>
-    ensures { IfOk result (λ text. string_bytes text ≡ named_json name.now verdict.now) }
+fn named_json(
+    alloc: Global,
+    name: &str,
+    verdict: &Verdict,
+    overlapping: u64,
+) -> Result<String, AllocError>
+    ensures { IfOk result (λ text. string_bytes text
+        ≡ named_json name.now verdict.now overlapping) }
 {
-    let value = named_value(alloc, name, verdict)?;
+    let value = named_value(alloc, name, verdict, overlapping)?;
     json_line(alloc, &value)
 }
 
@@ -299,16 +333,23 @@ fn named_line(alloc: Global, name: &str, verdict: &Verdict) -> Result<String, Al
     format!(in alloc; "{name}: {line}")
 }
 
-/// What `audit` prints of a verdict: a JSON object on a line, or lines. Allocates the text, and the object.
+/// What `audit` prints of a verdict: a JSON object on a line, or lines. The object of a yes has how many calls overlap another one: so many,
+/// which the lines leave out. Allocates the text, and the object.
 ///
 /// # Errors
 ///
 /// Out of memory.
-pub fn told_verdict(alloc: Global, as_json: bool, verdict: &Verdict) -> Result<String, AllocError>
-    ensures { IfOk result (λ text. string_bytes text ≡ told_verdict as_json verdict.now) }
+pub fn told_verdict(
+    alloc: Global,
+    as_json: bool,
+    verdict: &Verdict,
+    overlapping: u64,
+) -> Result<String, AllocError>
+    ensures { IfOk result (λ text. string_bytes text
+        ≡ told_verdict as_json verdict.now overlapping) }
 {
     if as_json {
-        verdict_json(alloc, verdict)
+        verdict_json(alloc, verdict, overlapping)
     } else {
         verdict_text(alloc, verdict)
     }
@@ -325,12 +366,13 @@ pub fn named_verdict(
     as_json: bool,
     name: &str,
     verdict: &Verdict,
+    overlapping: u64,
 ) -> Result<String, AllocError>
     ensures { IfOk result (λ text. string_bytes text
-        ≡ named_verdict as_json name.now verdict.now) }
+        ≡ named_verdict as_json name.now verdict.now overlapping) }
 {
     if as_json {
-        named_json(alloc, name, verdict)
+        named_json(alloc, name, verdict, overlapping)
     } else {
         named_line(alloc, name, verdict)
     }

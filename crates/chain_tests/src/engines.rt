@@ -86,7 +86,8 @@ static CASES: [(usize, Style, Option<u8>, &'static str); 9] = [
         JSON,
         Some(0),
         "{\"calls\":0,\"segment\":0,\"verdict\":\"yes\"}\n{\"calls\":0,\"segment\":1,\"verdict\":\"yes\"}\n\
-            {\"segments\":2,\"verdict\":\"segments 2\"}\n",
+            {\"beside\":0,\"calls\":0,\"kept\":0,\"lagging\":0,\"open\":0,\"overlapping\":0,\
+            \"repeated\":0,\"segments\":2,\"verdict\":\"segments 2\"}\n",
     ),
     (
         40,
@@ -98,7 +99,8 @@ static CASES: [(usize, Style, Option<u8>, &'static str); 9] = [
         100,
         LAST_JSON,
         Some(0),
-        "{\"segments\":2,\"verdict\":\"segments 2\"}\n",
+        "{\"beside\":0,\"calls\":0,\"kept\":0,\"lagging\":0,\"open\":0,\"overlapping\":0,\
+            \"repeated\":0,\"segments\":2,\"verdict\":\"segments 2\"}\n",
     ),
 ];
 
@@ -117,6 +119,7 @@ fn audits_to<R: Read + Drop>(
         &mut Input::new(input),
         &mut output,
         style,
+        0,
         &mut Unwatched,
     );
     assert!(rt; output.as_slice() == written.as_bytes());
@@ -165,7 +168,14 @@ fn a_segment_cut_short(rt: HostRuntime) {
 fn a_second_write_that_fails(rt: HostRuntime) {
     let mut output = TakesOne(Vec::new(rt.alloc()));
     let mut input = Input::new(two_segments(100));
-    let told = audit_chain_io(rt.alloc(), &mut input, &mut output, LINES, &mut Unwatched);
+    let told = audit_chain_io(
+        rt.alloc(),
+        &mut input,
+        &mut output,
+        LINES,
+        0,
+        &mut Unwatched,
+    );
     assert!(rt; output.0.as_slice() == b"segment 0\nyes\norder\n".as_slice());
     assert!(rt; matches!(told, Err(ProgFault::CannotWrite)));
 }

@@ -1,6 +1,6 @@
 //! A flush that fails.
 
-use audit_readers::{Input, ProgFault, audit_io, resolve_io};
+use audit_readers::{Input, ProgFault, Unwatched, audit_io, resolve_io};
 use std::io::{Error, ErrorKind, Read, Write};
 use std::process::Abort;
 
@@ -39,7 +39,7 @@ fn flush_that_fails(rt: HostRuntime) {
     let alloc = rt.alloc();
     let mut output = FailsAtFlush(Vec::new(alloc));
     let mut input = Input::new(HEAD.as_slice().chain(ROOT.as_slice()));
-    let told = audit_io(alloc, &mut input, &mut output, false);
+    let told = audit_io(alloc, &mut input, &mut output, false, 0, &mut Unwatched);
     expect(&rt, told, &output, "yes\norder\n");
     let mut output = FailsAtFlush(Vec::new(alloc));
     let mut input = Input::new(HEAD.as_slice().chain(ROOT.as_slice()));

@@ -29,9 +29,9 @@ fn feed_piece(
         if rest.is_empty() {
             break;
         }
-        match chain.feed(alloc, rest).expect(rt, "memory") {
+        match chain.feed(alloc, rest, false).expect(rt, "memory") {
             Step::More(next) => return Fed::Going(next),
-            Step::Right(count, order, next) => {
+            Step::Right(count, order, _, next) => {
                 chain = next;
                 rest = rest.get(count..).unwrap_or(&[]);
                 orders.push(order).expect(rt, "memory");
@@ -74,7 +74,7 @@ fn pieces_of_every_kind_give_one_verdict(rt: HostRuntime) {
 
 /// The chain after a piece without a byte, which is taken.
 fn after_no_byte(rt: &impl Abort, alloc: Global, chain: Chain) -> Chain {
-    match chain.feed(alloc, &[]).expect(rt, "memory") {
+    match chain.feed(alloc, &[], false).expect(rt, "memory") {
         Step::More(next) => next,
         _ => panic!(rt; "no byte came"),
     }

@@ -58,8 +58,8 @@ fn past_of(alloc: Global, segment: &Trace, before: Option<PlainSpace>) -> Option
 fn found(rt: &impl Abort, alloc: Global, segment: &Trace, before: Option<PlainSpace>) -> Found
     requires { IfSome before (FitsLayout segment.now.layout) }
 {
-    match judge_segment(alloc, segment, past_of(alloc, segment, before)) {
-        Ok((order, past)) => {
+    match judge_segment(alloc, segment, past_of(alloc, segment, before), false) {
+        Ok((order, past, _)) => {
             let pages = past.space.pages().expect(rt, "memory");
             Ok((order.calls().len(), pages.len()))
         }

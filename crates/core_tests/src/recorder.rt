@@ -228,6 +228,6 @@ fn segment_of_two_pens(rt: HostRuntime) -> Result<(), Fail> {
     assert!(rt; segment.start().is_none());
     assert_eq!(rt; segment.events().len(), 4);
     assert_eq!(rt; segment.events()[1].event(), call(1, resolve));
-    assert!(rt; judge_segment(alloc, &segment, None).is_ok());
+    assert!(rt; judge_segment(alloc, &segment, None, false).is_ok());
     Ok(())
 }

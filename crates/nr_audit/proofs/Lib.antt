@@ -13,8 +13,10 @@ pub mod KnownEntries
 pub mod LastCalls
 pub mod LastEvents
 pub mod LogFaults
+pub mod MostLate
 pub mod NeededEntries
 pub mod OneReplica
+pub mod Overlaps
 pub mod PartsOfVerdicts
 pub mod PassedPlaces
 pub mod Pasts
@@ -30,3 +32,4 @@ pub mod StartSpaces
 pub mod Starts
 pub mod TouchLists
 pub mod Traces
+pub mod Untouched

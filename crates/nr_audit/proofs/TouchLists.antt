@@ -21,6 +21,7 @@ use Rattle.nr_joined.specs.Run.{Run}
 use Rattle.nr_touch.specs.Stale.{FindsStale}
 use Rattle.nr_touch.specs.declared.touches.touch.Touch.{Touch}
 use Rattle.nr_audit.specs.Touches.{known_when, HasRightTouches, HasTouch, IsStale}
+use Rattle.nr_audit.specs.Met.{AreTouchesOf}
 use Rattle.nr_audit.specs.inside.Begun.{is_protect, touch_by, touch_between, AreTouchesBelow, IsPlaceAnswered, IsPlacePlain, IsFirstStale, IsTouchAt}
 use Rattle.nr_audit.specs.inside.Tables.{IsReplyBelow}
 use Rattle.nr_audit.proofs.CallsAndReplies.{answers_only}
@@ -208,6 +209,14 @@ made_there segment made answered (Some touch) replied is =
     let has = between_has segment made answered touch (sym is) replied.1 in
     (has.0, has.1, λ other own same. let there = only_touch segment made answered replied other own same in cc)
 
+-- all of them
+pub all_touches : (segment : Recording) (touches : List Touch) → AreTouchesBelow segment (length segment.events) touches → AreTouchesOf segment touches
+all_touches segment touches are = record {
+  each = λ index touch at. (are.each index touch at).0;
+  all = λ touch has. are.all touch has (touch_within segment touch has);
+  rising = are.rising;
+}
+
 -- ---- calls of the log that are answered
 
 -- the call that is read at the place has a reply
@@ -293,3 +302,13 @@ module _ (before : Option Run) (start : Space) (segment : Recording) (touches : 
       let first = first_of_list before start segment touches index finds.0 are finds in
       subst (λ (o : Option ℕ). IfSome o (IsFirstStale before start segment)) (sym some)
       (subst (λ (t : Touch). IsFirstStale before start segment t.made) (get_or_from_slice_get touches index finds.0 finds.0 finds.1) first)
+
+-- what holds where no touch is stale
+pub where_none : (before : Option Run) (start : Space) (segment : Recording) (touches : List Touch) (found number : Option ℕ) (P Q : Type 0) → (P → Q)
+    → FindsStale before start segment touches found
+    → number ≡ option_map (λ (touch : Touch). touch.made) (option_and_then (slice_get touches) found) → IfNone found P → IfNone number Q
+where_none before start segment touches None number P Q so finds is it = subst (λ (o : Option ℕ). IfNone o Q) (sym is) (so it)
+where_none before start segment touches (Some index) number P Q so finds is it =
+    let one : number ≡ Some finds.0.made =
+    is ∙ ap (option_map (λ (touch : Touch). touch.made)) finds.1 in
+    subst (λ (o : Option ℕ). IfNone o Q) (sym one) tt

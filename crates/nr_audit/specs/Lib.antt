@@ -6,6 +6,8 @@ pub mod Served
 -- a segment, and the space before it
 pub mod Start
 pub mod Touches
+pub mod Meetings
+pub mod Met
 pub mod Releases
 pub mod Faults
 pub mod Segments

@@ -50,7 +50,7 @@ IsBehind before past segment = ⊥
 -- the segment is right with the order, from the space on with which it begins: its events are a well-formed history; all its answered
 -- updates and reads and some unanswered updates are in the order, each once; a call answered before another was made comes first; each
 -- answer is that of one sequential address space; each dump that is there translates every address as that space does after some of
--- the updates; every answered touch is answered as its address was at a moment that no flush had ended before, or faults by a table that
+-- the updates; every answered touch is answered as after a prefix that is allowed for its address, or faults by a table that
 -- lags; and no memory is given away while an access that begins then could reach it: one that began before may
 pub record IsRightAfter (before : Option Run) (segment : Recording) (order : List ℕ) : Type 0 where
   pub events : IsWellFormedHistory segment

@@ -5,6 +5,7 @@ pub mod Dumps
 pub mod Indexes
 pub mod LastCalls
 pub mod LastEvents
+pub mod Meetings
 pub mod Passes
 pub mod Prefixes
 pub mod Replies

@@ -15,7 +15,7 @@ use std::alloc::Global;
 use vs_types::Fail;
 
 /// The thread of the call, the touch or the release that an event is, or `None` where it is a reply.
-fn thread_of(event: Event) -> Option<u16>
+pub(crate) fn thread_of(event: Event) -> Option<u16>
     ensures { result ≡ option_map (λ made. made.thread) (made_by event) }
 {
     match event {

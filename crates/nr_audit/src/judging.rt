@@ -1,6 +1,6 @@
 //! The audit: of a trace, of a segment behind another, of what was read, and of bytes.
 
-ghost use Rattle.std.specs.Prelude.{◌≡◌, ℕ, IfErr, IfOk, IfSome, List, None, OnOk, Option, option_map};
+ghost use Rattle.std.specs.Prelude.{◌≡◌, ℕ, is_some, IfErr, IfOk, IfSome, List, None, OnOk, Option, option_map};
 ghost use Rattle.vs_types.specs.Refusal.{IfRefused};
 ghost use Rattle.nr_trace.specs.Calls.{IsWellFormedHistory};
 ghost use Rattle.nr_trace.specs.Feed.{Reads};
@@ -12,11 +12,14 @@ ghost use Rattle.nr_trace.specs.Spelling.{Spells};
 ghost use Rattle.nr_trace.specs.declared.fault.Fault.{Fault};
 ghost use Rattle.nr_audit.specs.Faults.{IsFirstAfter, IsSoundAfter};
 ghost use Rattle.nr_audit.specs.Headline.{AreRightWith, HasFittingDumps, IsSpelledWith, SpellsAlone};
+ghost use Rattle.nr_audit.specs.Met.{HasMet};
+ghost use Rattle.nr_audit.specs.Start.{begins_in};
 ghost use Rattle.nr_joined.specs.Run.{Run};
 ghost use Rattle.nr_touch.specs.Tails.{IsSoundTail, IsTailOf};
 ghost use Rattle.nr_audit.specs.Segments.{run_after, FitsPast, IsBehind, IsKept, IsRightAfter};
 ghost use Rattle.nr_audit.specs.Verdict.{IfYes, IsVerdictOf, IsVerdictOn};
 
+use crate::met::Met;
 use crate::past::Past;
 use crate::search::search;
 use crate::start::begin;
@@ -41,7 +44,7 @@ fn parts_of(alloc: Global, before: Option<Past>) -> (Option<PlainSpace>, Tail)
 }
 
 /// The recorded order of a segment that is right, and what is kept for the next one: the space after its whole log, and how addresses
-/// may still be found to look otherwise. `before` is what the segment before left; without one the segment is the first of its chain. A
+/// may still be found to look otherwise; and with `counts` what is counted of it. `before` is what the segment before left; without one the segment is the first of its chain. A
 /// trace is such a first one, without a start, touches and releases.
 ///
 /// The space that is kept, where there is one, has the depth and the limit of the segment's layout. A segment with a start is then
@@ -51,8 +54,8 @@ fn parts_of(alloc: Global, before: Option<Past>) -> (Option<PlainSpace>, Tail)
 /// Of a right one the events are a well-formed history; the order has all answered updates and reads and some unanswered updates, each
 /// once, and keeps what came before what; each answer is that of one sequential address space, from the space on with which the
 /// segment begins; each dump that is there translates every canonical address as that space does after so many updates as the
-/// replica had applied; each answered touch was answered as its address was at some moment of the whole run so far which no flush had
-/// ended before the touch began, or faulted by a table that lags; and no release is wrong. An update that its segment doesn't answer is
+/// replica had applied; each answered touch was answered as after a prefix of the whole run so far that is allowed for its address, or
+/// faulted by a table that lags; and no release is wrong. An update that its segment doesn't answer is
 /// never over. A refusal does not say that no other order explains it.
 ///
 /// Allocates memory beside the trace: at most 16 bytes for each event and 4 for each thread, or where there are more threads than
@@ -62,7 +65,8 @@ fn parts_of(alloc: Global, before: Option<Past>) -> (Option<PlainSpace>, Tail)
 /// order, for the pages of the space and what the check of a dump takes. It takes time for the segment's own events, log, start and
 /// dumps, and for what was left open, and not for the pages of the space before. A segment without updates, touches and releases takes
 /// none for what was left open. Only the first segment with releases lists all pages, in an index that is kept for the next ones: four
-/// rows of 16 bytes for each page.
+/// rows of 16 bytes for each page. With `counts` it allocates four bytes more for each event, 48 for each update that changes the space, and
+/// a row of a map for each thread and address of a late fault.
 ///
 /// # Errors
 ///
@@ -71,13 +75,17 @@ pub fn judge_segment(
     alloc: Global,
     segment: &Trace,
     before: Option<Past>,
-) -> Result<(Order, Past), Fail<Fault>>
+    counts: bool,
+) -> Result<(Order, Past, Option<Met>), Fail<Fault>>
     requires { IfSome before (FitsPast segment.now.layout) }
     ensures sound { (run : Option Run) → IsBehind run before segment.now
         → OnOk result (IsSoundAfter run segment.now) }
     ensures order { IfOk result (λ right. right.0 ≡ recorded_order segment.now) }
     ensures kept { (run : Option Run) → IsBehind run before segment.now
         → IfOk result (λ right. IsKept (run_after run segment.now) right.1) }
+    ensures met { (run : Option Run) → IsBehind run before segment.now → IfOk result
+        (λ right. IfSome right.2 (HasMet run (begins_in run segment.now) segment.now)) }
+    ensures counted { IfOk result (λ right. is_some right.2 ≡ counts) }
     ensures fits { IfOk result (λ right. FitsPast segment.now.layout right.1) }
     ensures right { (run : Option Run) → IsBehind run before segment.now
         → IfOk result (λ right. IsRightAfter run segment.now right.0) }
@@ -86,7 +94,7 @@ pub fn judge_segment(
 {
     let parts = parts_of(alloc, before);
     let start = begin(alloc, segment, parts.0)?;
-    search(alloc, segment, parts.1, start)
+    search(alloc, segment, parts.1, start, counts)
 }
 
 /// Whether a trace is right: `Yes` with the recorded order of its calls where none of the faults holds, else `No` with the first.
@@ -105,8 +113,8 @@ pub fn judge(alloc: Global, trace: &Trace) -> Result<Verdict, Memory>
         → IfOk result (λ verdict. verdict ≡ Verdict.No fault) }
     ensures right { IfOk result (IfYes (IsRightAfter None trace.now)) }
 {
-    match judge_segment(alloc, trace, None) {
-        Ok((order, _)) => Ok(Verdict::Yes(order)),
+    match judge_segment(alloc, trace, None, false) {
+        Ok((order, _, _)) => Ok(Verdict::Yes(order)),
         Err(Fail::Memory) => Err(Memory),
         Err(Fail::Refused(fault)) => Ok(Verdict::No(fault)),
     }

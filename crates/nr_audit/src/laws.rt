@@ -34,8 +34,8 @@ pub fn one_verdict()
         → IsVerdictOn trace second → first ≡ second }
 {}
 
-/// A trace is a segment without a start and without touches, the first of its chain: it is right as the one where it is right as the other,
-/// and else it has the same first fault.
+/// A trace is a segment without a start, touches and releases, the first of its chain: it is right as the one where it is right as the
+/// other, and else it has the same first fault.
 pub fn traces_are_first_segments()
     ensures sound { (trace : Recording) → IsTrace trace
         → IsSoundAfter None trace ↔ IsFaultless trace }
@@ -69,7 +69,7 @@ pub fn segments_go_on_from_their_starts()
 {}
 
 /// The table of the only replica never lags: where a segment has one, a touch is right just where it is answered as its address was at a
-/// moment that no flush had ended before; by itself, and behind other segments.
+/// moment that is allowed; by itself, and behind other segments.
 pub fn one_replica_never_lags()
     ensures alone { (start : Space) (segment : Recording) (touch : Touch) → IsRecording segment
         → segment.layout.replicas ≡ 1 → HasCleanLog segment → HasTouch segment touch

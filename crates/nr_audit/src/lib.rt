@@ -3,7 +3,7 @@
 //! First the start of a segment is looked at, the page table with which it begins. The first pass makes a history of the
 //! trace: by number each call's reply. The later passes come one after another in the order of the faults that they look for.
 //! By the history they look at the log, and at the positions with the floors. By the last events of the calls, in the recorded
-//! order, they look at the answers; then at the touches of a segment, and then at the dumps.
+//! order, they look at the answers; then at the touches and releases of a segment, and then at the dumps.
 #![tactic(auto)]
 
 mod answers;
@@ -18,6 +18,8 @@ mod last_calls;
 mod last_events;
 pub mod laws;
 mod log;
+mod meetings;
+mod met;
 mod needs;
 mod order;
 mod past;
@@ -35,6 +37,8 @@ pub use answers::serve;
 pub use dumps::{fault_at, table_fault};
 pub use forms::is_trace;
 pub use judging::{audit, judge, judge_read, judge_segment};
+pub use meetings::overlapping;
+pub use met::{Met, Totals};
 pub use past::Past;
 pub use requests::request_of;
 pub use start::{begin, copy};

@@ -1,10 +1,11 @@
 //! The passes, one after another.
 
-ghost use Rattle.std.specs.Prelude.{◌≡◌, IfOk, IfErr, OnOk, Option, Some};
+ghost use Rattle.std.specs.Prelude.{◌≡◌, is_some, IfOk, IfErr, IfSome, OnOk, Option, Some};
 ghost use Rattle.vs_types.specs.Refusal.{IfRefused};
 ghost use Rattle.nr_trace.specs.Orders.{recorded_order, space_from};
 ghost use Rattle.nr_joined.specs.Run.{Run, run_with};
 ghost use Rattle.nr_touch.specs.Tails.{GoesOn, IsSoundTail, IsTailOf};
+ghost use Rattle.nr_audit.specs.Met.{HasMet};
 ghost use Rattle.nr_audit.specs.Touches.{HasRightTouches};
 ghost use Rattle.nr_audit.specs.Verdict.{space_of};
 ghost use Rattle.nr_audit.specs.inside.Search.{late_fault, HasNoFaultBehind, IsFirstBehind};
@@ -15,6 +16,7 @@ use crate::dumps::check_dumps;
 use crate::floors::check_replies;
 use crate::last_events::LastEvents;
 use crate::log::check_log;
+use crate::met::Met;
 use crate::order::list_order;
 use crate::past::Past;
 use crate::touches::{Touched, stale_touch};
@@ -36,13 +38,14 @@ fn late_fault(stale: Option<u32>, reachable: Option<u32>) -> Option<Fault>
 }
 
 /// The passes over a trace, or over a segment behind others that left this, one after another, up to the first fault from the start on.
-/// Where there is none, gives the recorded order, and what is kept for the next segment.
+/// Where there is none, gives the recorded order, what is kept for the next segment, and what is counted, if that is asked.
 pub(crate) fn search(
     alloc: Global,
     trace: &Trace,
     tail: Tail,
     start: PlainSpace,
-) -> Result<(Order, Past), Fail<Fault>>
+    counts: bool,
+) -> Result<(Order, Past, Option<Met>), Fail<Fault>>
     requires start { start ≡ space_of trace.now.layout start.space }
     requires sound { IsSoundTail tail }
     ensures none { (before : Option Run) → IsTailOf before tail
@@ -57,6 +60,10 @@ pub(crate) fn search(
     ensures tail { (before : Option Run) → IsTailOf before tail
         → GoesOn before trace.now start.space → IfOk result
         (λ right. IsTailOf (Some (run_with before start.space trace.now)) right.1.tail) }
+    ensures met { (before : Option Run) → IsTailOf before tail
+        → GoesOn before trace.now start.space → IfOk result
+        (λ right. IfSome right.2 (HasMet before start.space trace.now)) }
+    ensures counted { IfOk result (λ right. is_some right.2 ≡ counts) }
     ensures left { IfOk result (λ right. IsSoundTail right.1.tail) }
     ensures first { (before : Option Run) → IsTailOf before tail
         → GoesOn before trace.now start.space
@@ -65,10 +72,11 @@ pub(crate) fn search(
     let history = check_calls(alloc, trace)?;
     let places = check_log(alloc, &history)?;
     let standing = check_replies(alloc, &history, places)?;
-    let touched = stale_touch(alloc, trace, &history, tail, start)?;
+    let touched = stale_touch(alloc, trace, &history, tail, start, counts)?;
     let Touched {
         stale,
         reachable,
+        met,
         tail,
         start,
     } = touched;
@@ -81,5 +89,5 @@ pub(crate) fn search(
         return Err(Fail::Refused(fault));
     }
     check_dumps(alloc, trace, &needed, &space, &mut faults)?;
-    Ok((order, Past { space, tail }))
+    Ok((order, Past { space, tail }, met))
 }

@@ -1,12 +1,13 @@
 //! The touches of a segment.
 
 ghost use Rattle.std.specs.Prelude.{◌≡◌, ◌↔◌, ◌+◌, ◌^◌, ◌<◌, [], false, IfNone, IfOk, IfSome, IsTrue, OnOk, length};
-ghost use Rattle.std.specs.Prelude.{option_and_then, option_map, slice_get, Option, Some};
+ghost use Rattle.std.specs.Prelude.{is_some, option_and_then, option_map, slice_get, Option, Some};
 ghost use Rattle.nr_trace.specs.Laws.{HasCleanLog};
 ghost use Rattle.nr_joined.specs.Run.{Run, run_with};
 ghost use Rattle.nr_touch.specs.Tails.{GoesOn, IsSoundTail, IsTailOf};
 ghost use Rattle.nr_audit.specs.Verdict.{space_of};
 ghost use Rattle.nr_audit.specs.Releases.{HasRightReleases};
+ghost use Rattle.nr_audit.specs.Met.{HasMet};
 ghost use Rattle.nr_audit.specs.Touches.{known_when, HasRightTouches};
 ghost use Rattle.nr_trace.specs.Calls.{operation_of};
 ghost use Rattle.nr_trace.specs.Recording.{IsRecording};
@@ -18,6 +19,7 @@ ghost use Rattle.nr_audit.specs.inside.Prefixes.{AreNeeds};
 use crate::forms::is_trace;
 use crate::history::History;
 use crate::last_events::{call_at, position_at};
+use crate::met::{Met, met_if, untouched};
 use crate::needs::{entries_known, raise_need};
 use crate::releases::{release_number, releases_of};
 use nr_touch::{Followed, Tail, Touch, follow};
@@ -240,12 +242,12 @@ fn number_in(touches: &[Touch], index: Option<usize>) -> Option<u32>
 }
 
 /// What is found of a segment's touches and releases: the call number of the first touch that is stale, or `None`; that of the first
-/// release that is wrong, or `None`; what is left for the touches of later
-/// segments; and the space with which the segment begins.
+/// release that is wrong, or `None`; what is counted of a right segment, if that is asked; what is left for the touches of later segments; and the space with which the segment begins.
 #[derive(Drop)]
 pub(crate) struct Touched {
     pub(crate) stale: Option<u32>,
     pub(crate) reachable: Option<u32>,
+    pub(crate) met: Option<Met>,
     pub(crate) tail: Tail,
     pub(crate) start: PlainSpace,
 }
@@ -253,13 +255,15 @@ pub(crate) struct Touched {
 /// The call numbers of the first touch that is stale, and of the first release that is wrong, or `None` each, where the segment begins with
 /// this space, behind segments that left this; what is left then; and the space again. Of a segment whose log isn't clean nothing is said
 /// but that the space comes back. Where no touch or release is made, an empty log isn't replayed; nor is one of answered maps and unmaps
-/// where nothing is left so far. It allocates memory for the touches, and for the replay of the log, which is undone.
+/// where nothing is left so far. It allocates memory for the touches, and for the replay of the log, which is undone; and with `counts` for
+/// what is counted.
 pub(crate) fn stale_touch(
     alloc: Global,
     segment: &Trace,
     history: &History,
     tail: Tail,
     start: PlainSpace,
+    counts: bool,
 ) -> Result<Touched, Memory>
     requires same { history.now ≡ segment.now }
     requires start { start ≡ space_of segment.now.layout start.space }
@@ -276,6 +280,11 @@ pub(crate) fn stale_touch(
     ensures reaches { (before : Option Run) → IsTailOf before tail
         → GoesOn before segment.now start.space → HasCleanLog segment.now → IfOk result
         (λ found. IfSome found.reachable (IsFirstWrong before start.space segment.now)) }
+    ensures met { (before : Option Run) → IsTailOf before tail
+        → GoesOn before segment.now start.space → HasCleanLog segment.now → IfOk result
+        (λ found. IfNone found.stale
+        (IfSome found.met (HasMet before start.space segment.now))) }
+    ensures counted { IfOk result (λ found. is_some found.met ≡ counts) }
     ensures tail { (before : Option Run) → IsTailOf before tail
         → GoesOn before segment.now start.space → HasCleanLog segment.now → IfOk result
         (λ found. IsTailOf (Some (run_with before start.space segment.now)) found.tail) }
@@ -284,27 +293,33 @@ pub(crate) fn stale_touch(
 {
     pages_are_a_space(&start);
     if is_quiet(segment, history, &tail) {
+        let met = untouched(alloc, segment, counts)?;
         return Ok(Touched {
             stale: None,
             reachable: None,
+            met,
             tail,
             start,
         });
     }
     let touches = touches_of(alloc, segment, history)?;
     let releases = releases_of(alloc, segment, history)?;
-    let followed = follow(alloc, tail, segment, start, &touches, &releases)?;
+    let followed = follow(alloc, tail, segment, start, &touches, &releases, counts)?;
     let Followed {
         stale,
+        excuses,
+        beside,
         reachable,
         tail,
         start,
     } = followed;
     let stale = number_in(&touches, stale);
     let reachable = release_number(&releases, reachable);
+    let met = met_if(alloc, segment, &touches, &excuses, beside)?;
     Ok(Touched {
         stale,
         reachable,
+        met,
         tail,
         start,
     })

@@ -4,6 +4,7 @@ use Rattle.std.proofs.lemmas.List.{append-nil, take-append-drop}
 use Rattle.nr_trace.specs.declared.fault.Fault.{Fault}
 use Rattle.nr_joined.specs.Run.{Run}
 use Rattle.nr_audit.specs.Segments.{run_after}
+use Rattle.nr_audit.specs.declared.met.Met.{Met}
 use Rattle.nr_chain.specs.Fed.{ChainFed, IsKeptOf}
 use Rattle.nr_chain.specs.Bytes.{EndsWith, GoesOnSo, IsFirstNext}
 use Rattle.nr_chain.specs.Verdict.{FeedsChain}
@@ -33,12 +34,12 @@ leads_begin bytes chain orders is none = (
       (subst (λ (c : ChainFed). GoesOnSo None (c.bytes ++ bytes) more found) is h),
 )
 
-pub leads_on : (bytes : List ℕ) (old new : ChainFed) (orders next : List (List ℕ)) (rest behind : List ℕ) (count : ℕ) (order : List ℕ)
-    → Leads bytes old orders rest → ((run : Option Run) → IsKeptOf run old.kept → FeedsChain run old rest (Right count order new))
+pub leads_on : (bytes : List ℕ) (old new : ChainFed) (orders next : List (List ℕ)) (rest behind : List ℕ) (count : ℕ) (order : List ℕ) (met : Option Met)
+    → Leads bytes old orders rest → ((run : Option Run) → IsKeptOf run old.kept → FeedsChain run old rest (Right count order met new))
     → next ≡ orders ++ order ∷ [] → behind ≡ drop count rest
     → Leads bytes new next behind
-leads_on bytes old new orders next rest behind count order (run, kept, leads) fed is cut =
-    let (some, within, segment, spelled, sound, same, now, none) = fed run kept in (
+leads_on bytes old new orders next rest behind count order met (run, kept, leads) fed is cut =
+    let (some, within, segment, spelled, sound, same, now, none, counted) = fed run kept in (
       Some (run_after run segment),
       now,
       λ more found h.

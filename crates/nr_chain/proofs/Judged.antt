@@ -41,7 +41,7 @@ cut_so bytes piece rest count =
 judged_step : (run : Option Run) (old : ChainFed) (piece : List ℕ) (count : ℕ) (step : Step) → 0 < count → count ≤ length piece
     → JudgesWhole run (old.bytes ++ take count piece) count step → FeedsChain run old piece step
 judged_step run old piece count (More new) some within h = absurd h
-judged_step run old piece count (Right own order new) some within (same, segment, spelled, sound, is, kept, none) = (
+judged_step run old piece count (Right own order met new) some within (same, segment, spelled, sound, is, kept, none, counted) = (
   subst (λ n. 0 < n) (sym same) some,
   subst (λ n. n ≤ length piece) (sym same) within,
   segment,
@@ -50,6 +50,7 @@ judged_step run old piece count (Right own order new) some within (same, segment
   is,
   kept,
   none,
+  counted,
 )
 judged_step run old piece count (Wrong fault) some within (segment, spelled, first) = λ rest.
     first_next run ((old.bytes ++ piece) ++ rest) fault (
@@ -60,24 +61,26 @@ judged_step run old piece count (Wrong fault) some within (segment, spelled, fir
     )
 
 -- what a piece makes of a chain ends within the piece
-ends_so : (piece : List ℕ) (count : ℕ) → 0 < count → count ≤ length piece → (step : Step) → EndsAt count step → EndsWithin piece step
-ends_so piece count some within (More new) is = tt
-ends_so piece count some within (Right own order new) is =
-    (subst (λ n. 0 < n) (sym is) some, subst (λ n. n ≤ length piece) (sym is) within)
-ends_so piece count some within (Wrong fault) is = tt
+ends_so : (counts : Bool) (piece : List ℕ) (count : ℕ) → 0 < count → count ≤ length piece → (step : Step) → EndsAt counts count step
+    → EndsWithin counts piece step
+ends_so counts piece count some within (More new) is = tt
+ends_so counts piece count some within (Right own order met new) (is, counted) =
+    (subst (λ n. 0 < n) (sym is) some, subst (λ n. n ≤ length piece) (sym is) within, counted)
+ends_so counts piece count some within (Wrong fault) is = tt
 
-pub judged_within : {E : Type 0} (last : Option Last) (begun : Bool) (feed new : FedSegment) (piece : List ℕ) (count : ℕ) (result : Result Step E)
-    → IsBetween last begun feed → FeedsSegment feed piece new (Ok count) → IsWhole new → IfOk result (EndsAt count) → IfOk result (EndsWithin piece)
-judged_within last begun feed new piece count result old feeds whole h =
+pub judged_within : {E : Type 0} (counts : Bool) (last : Option Last) (begun : Bool) (feed new : FedSegment) (piece : List ℕ) (count : ℕ) (result : Result Step E)
+    → IsBetween last begun feed → FeedsSegment feed piece new (Ok count) → IsWhole new → IfOk result (EndsAt counts count)
+    → IfOk result (EndsWithin counts piece)
+judged_within counts last begun feed new piece count result old feeds whole h =
     let is = took feed new piece count feeds in
     let some = some_taken feed new piece count old.taken old.not_whole whole is in
-    IfOk-weaker result (EndsAt count) (EndsWithin piece) (ends_so piece count some is.within) h
+    IfOk-weaker result (EndsAt counts count) (EndsWithin counts piece) (ends_so counts piece count some is.within) h
 
-pub refused_within : {E : Type 0} (piece : List ℕ) (fail : Fail Format) (result : Result Step E) → IfOk result (RefusesWith fail)
-    → IfOk result (EndsWithin piece)
-refused_within piece Memory result h = IfOk-weaker result (RefusesWith Memory) (EndsWithin piece) (λ step none. absurd none) h
-refused_within piece (Refused fault) result h =
-    IfOk-weaker result (RefusesWith (Refused fault)) (EndsWithin piece) (λ step is. subst (EndsWithin piece) (sym is) tt) h
+pub refused_within : {E : Type 0} (counts : Bool) (piece : List ℕ) (fail : Fail Format) (result : Result Step E) → IfOk result (RefusesWith fail)
+    → IfOk result (EndsWithin counts piece)
+refused_within counts piece Memory result h = IfOk-weaker result (RefusesWith Memory) (EndsWithin counts piece) (λ step none. absurd none) h
+refused_within counts piece (Refused fault) result h =
+    IfOk-weaker result (RefusesWith (Refused fault)) (EndsWithin counts piece) (λ step is. subst (EndsWithin counts piece) (sym is) tt) h
 
 module _ (last : Option Last) (begun : Bool) (feed new : FedSegment) (self : ChainFed) (piece : List ℕ) (old : IsBetween last begun feed)
     (view : seen last feed ≡ self) (run : Option Run) (kept : IsKeptOf run self.kept) where

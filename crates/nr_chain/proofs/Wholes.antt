@@ -16,6 +16,9 @@ use Rattle.nr_trace.proofs.LawsOfFormat.{no_fault}
 use Rattle.nr_audit.specs.Faults.{IsFirstAfter, IsSoundAfter}
 use Rattle.nr_joined.specs.Run.{Run}
 use Rattle.nr_audit.specs.Segments.{run_after, FitsPast, IsBehind, IsKept}
+use Rattle.nr_audit.specs.Met.{HasMet}
+use Rattle.nr_audit.specs.Start.{begins_in}
+use Rattle.nr_audit.specs.declared.met.Met.{Met}
 use Rattle.nr_audit.specs.declared.past.Past.{Past}
 use Rattle.nr_trace.specs.declared.fault.Fault.{Fault}
 use Rattle.nr_chain.specs.Fed.{IsKeptOf}
@@ -74,13 +77,13 @@ layout_after (Some run) None segment kept follows = absurd kept
 
 -- a whole segment that is right, and the next one begins
 pub judged_right : (run : Option Run) (last : Option Last) (feed next : FedSegment) (segment : Recording) (layout : Layout) (count : ℕ)
-    (order : List ℕ) (past : Past) → IsKeptOf run (option_map kept_by last)
+    (order : List ℕ) (past : Past) (met : Option Met) → IsKeptOf run (option_map kept_by last)
     → feed.before ≡ layout_of (option_map kept_by last) → layout ≡ segment.layout → SpellsSegment feed.before (bytes_in feed.pieces) segment
     → IsSoundAfter run segment → order ≡ recorded_order segment → IsKept (run_after run segment) past
-    → next ≡ record { before = Some layout; pieces = Taken [] }
-    → JudgesWhole run (bytes_in feed.pieces) count (Right count order
+    → IfSome met (HasMet run (begins_in run segment) segment) → next ≡ record { before = Some layout; pieces = Taken [] }
+    → JudgesWhole run (bytes_in feed.pieces) count (Right count order met
     (record { kept = Some (record { layout = layout; past = past }); bytes = bytes_in next.pieces }))
-judged_right run last feed next segment layout count order past kept layouts layout_is spelled sound order_is is fresh =
+judged_right run last feed next segment layout count order past met kept layouts layout_is spelled sound order_is is counted fresh =
     let follows = subst (λ (b : Option Layout). Follows (forms.Segment b) segment.layout) layouts spelled.follows in (
       refl,
       segment,
@@ -89,6 +92,7 @@ judged_right run last feed next segment layout count order past kept layouts lay
       order_is,
       (layout_is ∙ layout_after run last segment kept follows, is),
       ap (λ (f : FedSegment). bytes_in f.pieces) fresh,
+      counted,
     )
 
 -- a whole segment that has a fault

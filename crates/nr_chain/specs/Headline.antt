@@ -59,7 +59,7 @@ HasRightReleasesIn start run events segment =
 -- from the space on in which the first begins, this holds. All answered updates and reads and some unanswered updates are in the orders,
 -- one after the other, each once. A call answered before another was made comes first. Each answer is that of one sequential address space.
 -- Each dump translates every address as that space does after all updates of the segments before its own and some of its own. Each answered
--- touch was answered as its address was at a moment that no flush had ended before, or faults by a table that lags. And no memory is given
+-- touch was answered as after a prefix that is allowed for its address, or faults by a table that lags. And no memory is given
 -- away while an access that begins then could reach it; one that began before may
 pub record IsRightChain (bytes : List ℕ) (orders : List (List ℕ)) : Type 0 where
   pub first : Segment

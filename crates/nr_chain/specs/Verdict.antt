@@ -1,5 +1,5 @@
 -- The verdict on a chain, and what a piece and the end make of one that comes in pieces.
-use Rattle.std.specs.Prelude.{◌≡◌, ℕ, ◌<◌, ◌≤◌, List, [], ◌++◌, length, take, Option, Some, None, ⊤}
+use Rattle.std.specs.Prelude.{◌≡◌, ℕ, ◌<◌, ◌≤◌, Bool, List, [], ◌++◌, length, take, is_some, IfSome, Option, Some, None, ⊤}
 use Rattle.vs_plain.specs.Plain.{BoundedSpace}
 use Rattle.nr_trace.specs.Recording.{Recording}
 use Rattle.nr_trace.specs.FirstFault.{HasSegmentFault}
@@ -8,7 +8,9 @@ use Rattle.nr_trace.specs.Spelling.{SpellsSegment}
 use Rattle.nr_trace.specs.declared.fault.Format.TheVariants.{Truncated}
 use Rattle.nr_audit.specs.Faults.{IsSoundAfter}
 use Rattle.nr_joined.specs.Run.{Run, end_of}
+use Rattle.nr_audit.specs.Met.{HasMet}
 use Rattle.nr_audit.specs.Segments.{run_after, FitsLayout}
+use Rattle.nr_audit.specs.Start.{begins_in}
 use Rattle.nr_trace.specs.declared.fault.Fault.{Fault}
 use Rattle.nr_chain.specs.Bytes.{layout_before, IsFirstNext, GoesOnSo}
 use Rattle.nr_chain.specs.declared.verdict.ChainVerdict.{ChainVerdict}
@@ -31,21 +33,21 @@ IfYes P (No orders fault) = ⊤
 abbrev pub LastsNext : Option Run → List ℕ → Fault → Type 0
 LastsNext before bytes fault = (rest : List ℕ) → IsFirstNext before (bytes ++ rest) fault
 
--- the piece is taken, and there are too few bytes; or so many bytes at its front end a segment that is right with its order; or the bytes with it
--- have a fault
+-- the piece is taken, and there are too few bytes; or so many bytes at its front end a segment that is right with its order, of
+-- which so much is counted, if it is; or the bytes with it have a fault
 abbrev pub FeedsChain : Option Run → ChainFed → List ℕ → Step → Type 0
 FeedsChain before old piece (More new) =
     (new ≡ record old { bytes = old.bytes ++ piece }) × HasSegmentFault (layout_before before) new.bytes Truncated
-FeedsChain before old piece (Right count order new) =
+FeedsChain before old piece (Right count order met new) =
     (0 < count) × (count ≤ length piece) × (segment : Recording) × SpellsSegment (layout_before before) (old.bytes ++ take count piece) segment
     × IsSoundAfter before segment × (order ≡ recorded_order segment)
-    × IsKeptOf (Some (run_after before segment)) new.kept × (new.bytes ≡ [])
+    × IsKeptOf (Some (run_after before segment)) new.kept × (new.bytes ≡ []) × IfSome met (HasMet before (begins_in before segment) segment)
 FeedsChain before old piece (Wrong fault) = LastsNext before (old.bytes ++ piece) fault
 
--- some bytes at the front of the piece end a segment that is right
-abbrev pub EndsWithin : List ℕ → Step → Type 0
-EndsWithin piece (Right count order new) = (0 < count) × (count ≤ length piece)
-EndsWithin piece step = ⊤
+-- some bytes at the front of the piece end a segment that is right, and of which something is counted where that is asked
+abbrev pub EndsWithin : Bool → List ℕ → Step → Type 0
+EndsWithin counts piece (Right count order met new) = (0 < count) × (count ≤ length piece) × (is_some met ≡ counts)
+EndsWithin counts piece step = ⊤
 
 -- this is the space after a run, if there is one, with the depth and the limit of its layout
 abbrev pub IsSpaceAfter : Option Run → Option BoundedSpace → Type 0

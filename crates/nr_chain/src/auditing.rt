@@ -26,12 +26,12 @@ pub fn audit_chain(alloc: Global, bytes: &[u8]) -> Result<ChainVerdict, Memory>
     let mut chain = Chain::new(alloc);
     let mut rest = bytes;
     'segments: while !rest.is_empty() {
-        match chain.feed(alloc, rest)? {
+        match chain.feed(alloc, rest, false)? {
             Step::More(next) => {
                 chain = next;
                 rest = &rest[rest.len()..];
             }
-            Step::Right(count, order, next) => {
+            Step::Right(count, order, _, next) => {
                 orders.push(order)?;
                 chain = next;
                 rest = &rest[count..];

@@ -1,10 +1,12 @@
 //! A chain that comes in pieces: each segment is judged as soon as it is whole.
 
-ghost use Rattle.std.specs.Prelude.{◌≡◌, ◌⊎◌, [], IfErr, IfOk, IfSome, OnOk, Option, Some, None, true, false, option_copied, option_map};
+ghost use Rattle.std.specs.Prelude.{◌≡◌, ◌⊎◌, [], is_some, IfErr, IfOk, IfSome, OnOk, Option, Some, None, true, false, option_copied, option_map};
 ghost use Rattle.nr_trace.specs.Feed.{IsWhole};
 ghost use Rattle.nr_trace.specs.Orders.{recorded_order};
 ghost use Rattle.vs_types.specs.Refusal.{IfRefused};
 ghost use Rattle.nr_audit.specs.Faults.{IsFirstAfter, IsSoundAfter};
+ghost use Rattle.nr_audit.specs.Met.{HasMet};
+ghost use Rattle.nr_audit.specs.Start.{begins_in};
 ghost use Rattle.nr_joined.specs.Run.{Run};
 ghost use Rattle.nr_audit.specs.Segments.{run_after, FitsPast, IsBehind, IsKept};
 ghost use Rattle.nr_chain.specs.Bytes.{EndsWith};
@@ -13,7 +15,7 @@ ghost use Rattle.nr_chain.specs.Verdict.{EndsWithin, FeedsChain, IsSpaceAfter};
 ghost use Rattle.nr_chain.specs.inside.Between.{bytes_in, kept_by, layout_of, FitsLast};
 ghost use Rattle.nr_chain.specs.inside.Steps.{EndsAt, JudgesWhole, RefusesWith};
 
-use nr_audit::{Order, Past, judge_segment};
+use nr_audit::{Met, Order, Past, judge_segment};
 use nr_trace::{Fault, Format, SegmentFeed, Trace, TraceLayout};
 use std::alloc::Global;
 use std::marker::Model;
@@ -61,8 +63,9 @@ impl Model for Chain {
 pub enum Step {
     /// The whole piece is taken, and too few bytes have come of the segment.
     More(Chain),
-    /// So many bytes at the front of the piece end a segment, which is right with this order; what is left belongs to the next one.
-    Right(usize, Order, Chain),
+    /// So many bytes at the front of the piece end a segment, which is right with this order; what is counted of it, if that is asked; and
+    /// what is left belongs to the next one.
+    Right(usize, Order, Option<Met>, Chain),
     /// The segment has this fault, its first: whatever comes after the piece.
     Wrong(Fault),
 }
@@ -82,15 +85,15 @@ impl Chain {
     }
 
     /// Takes bytes at the front of the next piece: all of them, or so many that a segment is whole, which is judged then. It
-    /// allocates what the segment says, and what its judgement takes.
+    /// allocates what the segment says, and what its judgement takes. With `counts` the calls and the touches of a right one are counted.
     ///
     /// # Errors
     ///
     /// `Memory` where a growth of memory was refused.
-    pub fn feed(self, alloc: Global, piece: &[u8]) -> Result<Step, Memory>
+    pub fn feed(self, alloc: Global, piece: &[u8], counts: bool) -> Result<Step, Memory>
         ensures feeds { (before : Option Run) → IsKeptOf before self.kept
             → IfOk result (FeedsChain before self piece.now) }
-        ensures within { IfOk result (EndsWithin piece.now) }
+        ensures within { IfOk result (EndsWithin counts piece.now) }
     {
         let Chain {
             last,
@@ -100,7 +103,7 @@ impl Chain {
         match feed.feed(piece) {
             Ok(count) => {
                 if feed.is_whole() {
-                    return judge_whole(alloc, last, feed, count);
+                    return judge_whole(alloc, last, feed, count, counts);
                 }
                 let begun = has_begun(begun, piece);
                 let next = Chain { last, begun, feed };
@@ -181,18 +184,22 @@ fn judge_last(
     alloc: Global,
     segment: Trace,
     before: Option<Past>,
-) -> Result<(Order, Past), Fail<Fault>>
+    counts: bool,
+) -> Result<(Order, Past, Option<Met>), Fail<Fault>>
     requires { IfSome before (FitsPast segment.layout) }
     ensures sound { (run : Option Run) → IsBehind run before segment
         → OnOk result (IsSoundAfter run segment) }
     ensures order { IfOk result (λ right. right.0 ≡ recorded_order segment) }
     ensures kept { (run : Option Run) → IsBehind run before segment
         → IfOk result (λ right. IsKept (run_after run segment) right.1) }
+    ensures met { (run : Option Run) → IsBehind run before segment → IfOk result
+        (λ right. IfSome right.2 (HasMet run (begins_in run segment) segment)) }
+    ensures counted { IfOk result (λ right. is_some right.2 ≡ counts) }
     ensures fits { IfOk result (λ right. FitsPast segment.layout right.1) }
     ensures first { (run : Option Run) → IsBehind run before segment
         → IfErr result (IfRefused (IsFirstAfter run segment)) }
 {
-    judge_segment(alloc, &segment, before)
+    judge_segment(alloc, &segment, before, counts)
 }
 
 /// Judges the segment that is whole, of which so many bytes came last.
@@ -201,13 +208,14 @@ fn judge_whole(
     last: Option<Last>,
     feed: SegmentFeed,
     count: usize,
+    counts: bool,
 ) -> Result<Step, Memory>
     requires whole { IsWhole feed }
     requires behind { feed.before ≡ layout_of (option_map kept_by last) }
     requires fits { IfSome last FitsLast }
     ensures judges { (before : Option Run) → IsKeptOf before (option_map kept_by last)
         → IfOk result (JudgesWhole before (bytes_in feed.pieces) count) }
-    ensures ends { IfOk result (EndsAt count) }
+    ensures ends { IfOk result (EndsAt counts count) }
 {
     let segment = match feed.end() {
         Ok(segment) => segment,
@@ -215,8 +223,8 @@ fn judge_whole(
     };
     let layout = segment.layout();
     let before = past_of(last);
-    match judge_last(alloc, segment, before) {
-        Ok((order, past)) => {
+    match judge_last(alloc, segment, before, counts) {
+        Ok((order, past, met)) => {
             let last = Some(Last { layout, past });
             let feed = SegmentFeed::new(alloc, Some(layout));
             let next = Chain {
@@ -224,7 +232,7 @@ fn judge_whole(
                 begun: false,
                 feed,
             };
-            Ok(Step::Right(count, order, next))
+            Ok(Step::Right(count, order, met, next))
         }
         Err(Fail::Memory) => Err(Memory),
         Err(Fail::Refused(fault)) => Ok(Step::Wrong(fault)),

@@ -12,19 +12,20 @@ ghost use Rattle.nr_chain.specs.Joined.{joined, Segment};
 ghost use Rattle.nr_chain.specs.Run.{AreFaultlessFrom, AreRightFrom, IsHistory, IsRightRun};
 ghost use Rattle.nr_chain.specs.Run.{space_behind, space_behind_all};
 
-/// If each segment is right from the space after those before it, the run of them all is right.
+/// If each segment is right from the space after those before it, but perhaps its touches and releases, so is the run of them all.
 pub fn right_segments_are_a_right_run()
     ensures { (start : Space) (first : Segment) (more : List Segment)
         → AreRightFrom start first.trace.layout (first ∷ more) → IsRightRun start first more }
 {}
 
-/// Segments without a fault, each with the order that it records, are right.
+/// Segments without a fault but perhaps of touches and releases, each with the order that it records, are right but for these.
 pub fn faultless_segments_are_right()
     ensures { (start : Space) (layout : Layout) (segments : List Segment)
         → AreFaultlessFrom start layout segments → AreRightFrom start layout segments }
 {}
 
-/// Parts of a chain, of which the second begins with the space after the first, are right, or without a fault, as one.
+/// Parts of a chain, of which the second begins with the space after the first, are right, or without a fault, as one: but perhaps for
+/// touches and releases.
 pub fn parts_are_right_as_one()
     ensures right { (start : Space) (layout : Layout) (front rest : List Segment)
         → AreRightFrom start layout front → AreRightFrom (space_behind_all start front) layout rest
@@ -35,7 +36,8 @@ pub fn parts_are_right_as_one()
         → AreFaultlessFrom start layout (front ++ rest) }
 {}
 
-/// Two runs in segments that are right, of which the second begins with the space after the first, are right as one.
+/// Two runs in segments that are right but perhaps for touches and releases, of which the second begins with the space after the first, are
+/// so as one.
 pub fn right_runs_are_right_as_one()
     ensures { (start : Space) (first next : Segment) (more rest : List Segment)
         → next.trace.layout ≡ first.trace.layout → IsRightRun start first more

@@ -245,7 +245,7 @@ module _ (last : Option Progress) (before : Option Past) (bytes : List ℕ) (fee
 pub goes_with : (came last : Option ChainState) (bytes rest more : List ℕ) (segments : List Recording) → GoesOnTo came bytes segments last rest
     → GoesOnTo came (bytes ++ more) segments last (rest ++ more)
 goes_with came last bytes rest more [] (same, is) = (same, ap (λ (l : List ℕ). l ++ more) is)
-goes_with came last bytes rest more (segment ∷ segments) (behind, begins, sound, goes) = (
+goes_with came last bytes rest more (segment ∷ segments) (behind, begins, sound, met, counted, goes) = (
   behind ++ more,
   record {
     own = begins.own;
@@ -253,7 +253,9 @@ goes_with came last bytes rest more (segment ∷ segments) (behind, begins, soun
     spelled = begins.spelled;
   },
   sound,
-  goes_with (Some (state_after came segment (length begins.own))) last behind rest more segments goes,
+  met,
+  counted,
+  goes_with (Some (state_after came segment met (length begins.own))) last behind rest more segments goes,
 )
 
 pub goes_and : (came middle last : Option ChainState) (bytes rest left : List ℕ) (segments more : List Recording) → GoesOnTo came bytes segments middle rest
@@ -261,8 +263,14 @@ pub goes_and : (came middle last : Option ChainState) (bytes rest left : List �
 goes_and came middle last bytes rest left [] more (same, is) then =
     subst (λ (bs : List ℕ). GoesOnTo came bs more last left) is
     (subst (λ (c : Option ChainState). GoesOnTo c rest more last left) same then)
-goes_and came middle last bytes rest left (segment ∷ segments) more (behind, begins, sound, goes) then =
-    (behind, begins, sound, goes_and (Some (state_after came segment (length begins.own))) middle last behind rest left segments more goes then)
+goes_and came middle last bytes rest left (segment ∷ segments) more (behind, begins, sound, met, counted, goes) then = (
+  behind,
+  begins,
+  sound,
+  met,
+  counted,
+  goes_and (Some (state_after came segment met (length begins.own))) middle last behind rest left segments more goes then,
+)
 
 pub explains_on : (came middle : Option ChainState) (bytes rest : List ℕ) (segments : List Recording) (explanation : ChainExplanation)
     → GoesOnTo came bytes segments middle rest → IsExplanationFrom middle rest explanation → IsExplanationFrom came bytes explanation
@@ -296,7 +304,7 @@ pub at_next : (came : Option ChainState) (self old new : ReaderState) (piece res
     → StepsTo here.last old rest (Right count new) → left ≡ drop count rest → IsAt came self piece new left
 at_next came self old new piece rest left count here (some, within, segment, spelled, sound, gone) cut =
     let own = old.bytes ++ take count rest in
-    let next : Option ChainState = Some (state_after here.last segment (length own)) in
+    let next : Option ChainState = Some (state_after here.last segment gone.met (length own)) in
     record {
       last = next;
       segments = here.segments ++ segment ∷ [];
@@ -309,6 +317,8 @@ at_next came self old new piece rest left count here (some, within, segment, spe
           spelled = spelled;
         },
         sound,
+        gone.met,
+        gone.counted,
         (refl, ap (λ (bs : List ℕ). bs ++ left) gone.none ∙ cut),
       );
       short = inr (subst (λ (bs : List ℕ). HasSegmentFault (layout_in next) bs Truncated) (sym gone.none) (none_is_short (forms.Segment (layout_in next))));

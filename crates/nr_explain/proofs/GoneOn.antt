@@ -4,10 +4,7 @@ use Rattle.vs_types.specs.Space.{Space}
 use Rattle.vs_plain.specs.Plain.{BoundedSpace}
 use Rattle.nr_trace.specs.Recording.{Recording}
 use Rattle.nr_trace.specs.Orders.{space_from}
-use Rattle.nr_touch.specs.Beside.{beside}
 use Rattle.nr_audit.specs.Verdict.{space_of}
-use Rattle.nr_explain.specs.Progress.{sums_after}
-use Rattle.nr_explain.specs.declared.chain.progress.Sums.{Sums}
 
 -- the space behind the segment is the one that the judge leaves
 pub same_end : (segment : Recording) (begun : Space) (first end after : BoundedSpace) → first ≡ space_of segment.layout begun
@@ -20,11 +17,3 @@ same_end segment begun first end after begins space depth limit judged =
     let whole : end ≡ space_of segment.layout (space_from begun segment segment.log) =
     λ i. record { depth = own_depth i; limit = own_limit i; space = own_space i } in
     whole ∙ sym judged
-
--- how much there is with the segment
-pub summed : (segment : Recording) (begun : Space) (first : BoundedSpace) (before old new : Sums) (near size : ℕ) → first ≡ space_of segment.layout begun
-    → old ≡ before → near ≡ beside first.space segment → new ≡ sums_after old segment near size
-    → new ≡ sums_after before segment (beside begun segment) size
-summed segment begun first before old new near size begins same count sum =
-    sum ∙ ap (λ (s : Sums). sums_after s segment near size) same
-    ∙ ap (λ (n : ℕ). sums_after before segment n size) (count ∙ ap (λ (s : BoundedSpace). beside s.space segment) begins)

@@ -53,7 +53,7 @@ none_seen (Some came) seen is none some = subst (IsSeenOf (Some came)) none is
 pub counts_alike : (came : ChainState) (seen : Seen) → IsSeen came seen → counts_seen seen ≡ counts_of came
 counts_alike came seen is = λ i. record {
   segments = (is.sums i).segments;
-  calls = (is.sums i).calls;
+  calls = (is.sums i).totals.calls;
   updates = (is.sums i).updates;
   reads = (is.sums i).reads;
   touches = (is.sums i).touches;
@@ -61,8 +61,12 @@ counts_alike came seen is = λ i. record {
   dumps = (is.sums i).dumps;
   replicas = (is.layout i).replicas;
   pages = length (pages (is.space i));
-  overlapping = (is.sums i).overlapping;
-  beside = (is.sums i).beside;
+  overlapping = (is.sums i).totals.met.overlapping;
+  beside = (is.sums i).totals.met.beside;
+  since_open = (is.sums i).totals.met.since_open;
+  since_kept = (is.sums i).totals.met.since_kept;
+  since_lagging = (is.sums i).totals.met.since_lagging;
+  repeated = (is.sums i).totals.met.repeated;
 }
 
 -- ---- the looks that linger

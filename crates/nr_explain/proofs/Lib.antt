@@ -22,7 +22,6 @@ pub mod EarlierLooks
 pub mod Explanations
 pub mod TwoWays
 pub mod Counting
-pub mod Meetings
 pub mod Bounds
 pub mod BadUnits
 pub mod TwoEnds

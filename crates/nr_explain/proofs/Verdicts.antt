@@ -17,13 +17,13 @@ pub goes_on_so : (came last : Option ChainState) (bytes rest : List ℕ) (segmen
 goes_on_so came last bytes rest [] found (same, left) ends =
     subst (λ (bs : List ℕ). EndsWith (run_in came) bs found) left
     (subst (λ (l : Option ChainState). EndsWith (run_in l) rest found) same ends)
-goes_on_so came last bytes rest (segment ∷ more) found (behind, begins, sound, goes) ends = (
+goes_on_so came last bytes rest (segment ∷ more) found (behind, begins, sound, met, has_met, goes) ends = (
   segment,
   behind,
   begins,
   sound,
   refl,
-  goes_on_so (Some (state_after came segment (length begins.own))) last behind rest more found goes ends,
+  goes_on_so (Some (state_after came segment met (length begins.own))) last behind rest more found goes ends,
 )
 
 counted_more : (most a n : ℕ) → min (min (a + 1) most + n) most ≡ min (a + (n + 1)) most
@@ -37,8 +37,8 @@ counted : (came last : Option ChainState) (bytes rest : List ℕ) (segments : Li
     → GoesOnTo came bytes segments last rest → (sums_in last).segments ≡ min ((sums_in came).segments + length segments) (2 ^ 64 - 1)
 counted came last bytes rest [] le (same, left) =
     ap (λ (l : Option ChainState). (sums_in l).segments) same ∙ count_bound (2 ^ 64 - 1) (sums_in came).segments le
-counted came last bytes rest (segment ∷ more) le (behind, begins, sound, goes) =
-    counted (Some (state_after came segment (length begins.own))) last behind rest more
+counted came last bytes rest (segment ∷ more) le (behind, begins, sound, met, has_met, goes) =
+    counted (Some (state_after came segment met (length begins.own))) last behind rest more
     (few (2 ^ 64 - 1) (sums_in came).segments) goes
     ∙ counted_more (2 ^ 64 - 1) (sums_in came).segments (length more)
     ∙ ap (λ (n : ℕ). min ((sums_in came).segments + n) (2 ^ 64 - 1)) (suc_more (length more)) where

@@ -15,8 +15,8 @@ use Rattle.nr_trace.specs.declared.version.Form.TheVariants as forms
 use Rattle.nr_trace.specs.declared.fault.Fault.{Fault}
 use Rattle.nr_joined.specs.Run.{end_of, IsOrderly}
 use Rattle.nr_joined.proofs.Orderly.{space_of_both}
-use Rattle.nr_touch.specs.Beside.{beside}
 use Rattle.nr_touch.specs.Tails.{AreSound, GoesOn, HasIndexes}
+use Rattle.nr_audit.specs.declared.met.Met.{Met}
 use Rattle.nr_audit.specs.Verdict.{space_of}
 use Rattle.nr_audit.specs.Faults.{IsFirstAfter, IsSoundAfter}
 use Rattle.nr_audit.specs.Start.{first_space, BeginsRight}
@@ -158,21 +158,17 @@ module _ (last : Option Progress) (segment : Recording) (before : Option Past) (
       subst (HasIndexes past.tail) (sym is.space) is.tail.index
 
   -- what is kept with the segment
-  pub seen_next : (came : Option ChainState) (next : Progress) (past : Past) (size : ℕ) → IsSeenOf came (all_states last)
+  pub seen_next : (came : Option ChainState) (next : Progress) (past : Past) (met : Met) (size : ℕ) → IsSeenOf came (all_states last)
       → IsKept (run_after (run_in came) segment) past → next.layout ≡ segment.layout → next.space ≡ past.space
       → IsCopyOf past.tail next.tail → (state_of next).began ≡ began_seen (all_states last) segment
-      → next.sums ≡ sums_after (sums_seen (all_states last)) segment (beside (first_space (space_seen (all_states last)) segment) segment) size
-      → IsSeen (state_after came segment size) (state_of next)
-  seen_next came next past size seen kept layout space tail began sums = record {
+      → next.sums ≡ sums_after (sums_seen (all_states last)) segment met size
+      → IsSeen (state_after came segment met size) (state_of next)
+  seen_next came next past met size seen kept layout space tail began sums = record {
     layout = layout ∙ layout_after came last follows seen;
     space = ap (λ (s : BoundedSpace). s.space) space ∙ kept.space;
     tail = tail.of_run (run_after (run_in came) segment) kept.tail;
     began = began ∙ began_alike came (all_states last) segment seen;
-    sums = sums
-        ∙ ap (λ (s : Sums). sums_after s segment (beside (first_space (space_seen (all_states last)) segment) segment) size)
-        (sums_alike came (all_states last) seen)
-        ∙ ap (λ (o : Option Space). sums_after (sums_in came) segment (beside (first_space o segment) segment) size)
-        (space_alike came (all_states last) seen);
+    sums = sums ∙ ap (λ (s : Sums). sums_after s segment met size) (sums_alike came (all_states last) seen);
   } where
     layout_after : (c : Option ChainState) (l : Option Progress) → Follows (forms.Segment (layout_seen (all_states l))) segment.layout
         → IsSeenOf c (all_states l) → segment.layout ≡ (run_after (run_in c) segment).trace.layout
@@ -181,15 +177,15 @@ module _ (last : Option Progress) (segment : Recording) (before : Option Past) (
     layout_after None (Some l) follows seen = absurd seen
     layout_after (Some c) None follows seen = absurd seen
 
-  pub known_next : (next : Progress) (past : Past) (size : ℕ) → IsKnown last
+  pub known_next : (next : Progress) (past : Past) (met : Met) (size : ℕ) → IsKnown last
       → ((came : Option ChainState) → IsBehind (run_in came) before segment → IsKept (run_after (run_in came) segment) past)
       → next.layout ≡ segment.layout → next.space ≡ past.space
       → IsCopyOf past.tail next.tail → (state_of next).began ≡ began_seen (all_states last) segment
-      → next.sums ≡ sums_after (sums_seen (all_states last)) segment (beside (first_space (space_seen (all_states last)) segment) segment) size
+      → next.sums ≡ sums_after (sums_seen (all_states last)) segment met size
       → IsKnown (Some next)
-  known_next next past size known kept layout space tail began sums = (
-    Some (state_after known.0 segment size),
-    seen_next known.0 next past size known.1 (kept known.0 (behind known.0 known.1)) layout space tail began sums,
+  known_next next past met size known kept layout space tail began sums = (
+    Some (state_after known.0 segment met size),
+    seen_next known.0 next past met size known.1 (kept known.0 (behind known.0 known.1)) layout space tail began sums,
   )
 
   pub show_behind : (fault : Fault) → IsKnown last

@@ -4,6 +4,9 @@ use Rattle.nr_trace.specs.Recording.{Recording}
 use Rattle.nr_trace.specs.declared.fault.Fault.TheVariants as faults
 use Rattle.nr_trace.specs.declared.fault.Format.TheVariants.{Truncated}
 use Rattle.nr_trace.specs.FirstFault.{HasSegmentFault}
+use Rattle.nr_audit.specs.Met.{HasMet}
+use Rattle.nr_audit.specs.Start.{begins_in}
+use Rattle.nr_audit.specs.declared.met.Met.{Met}
 use Rattle.nr_audit.specs.Faults.{IsFirstAfter, IsSoundAfter}
 use Rattle.nr_audit.specs.Start.{first_space}
 use Rattle.nr_trace.specs.declared.fault.Fault.{Fault}
@@ -20,12 +23,13 @@ use Rattle.nr_explain.specs.declared.chain.explanation.ChainExplanation.TheVaria
 use Rattle.nr_explain.specs.declared.chain.reader.ReaderStep.{ReaderStep}
 use Rattle.nr_explain.specs.declared.chain.reader.ReaderStep.TheVariants.{More, Found}
 
--- the bytes are those of these right segments, which come to the last, and then others
+-- the bytes are those of these right segments, of which so much is counted and which come to the last, and then others
 abbrev pub GoesOnTo : Option ChainState → List ℕ → List Recording → Option ChainState → List ℕ → Type 0
 GoesOnTo came bytes [] last rest = (last ≡ came) × (rest ≡ bytes)
 GoesOnTo came bytes (segment ∷ more) last rest =
     (behind : List ℕ) × (begins : BeginsWith (layout_in came) bytes segment behind) × IsSoundAfter (run_in came) segment
-    × GoesOnTo (Some (state_after came segment (length begins.own))) behind more last rest
+    × (met : Met) × HasMet (run_in came) (begins_in (run_in came) segment) segment met
+    × GoesOnTo (Some (state_after came segment met (length begins.own))) behind more last rest
 
 -- the unit shows the fault of the format that the next segment has, which begins behind so many bytes
 abbrev pub IsBadSegment : Option ChainState → List ℕ → BadSegment → Type 0

@@ -3,7 +3,7 @@ use Rattle.std.specs.Prelude.{◌≡◌, ◌+◌, length}
 use Rattle.vs_types.specs.Space.{pages}
 use Rattle.nr_trace.specs.Recording.{Recording}
 use Rattle.nr_trace.specs.Orders.{recorded_order, space_after}
-use Rattle.nr_explain.specs.Meetings.{overlapping}
+use Rattle.nr_audit.specs.Meetings.{overlapping}
 use Rattle.nr_explain.specs.declared.trace.counts.Counts.{Counts}
 
 -- the calls of the recorded order, the updates among them, which are the log, and the others, which are reads; the replicas; and the

@@ -4,7 +4,6 @@ pub mod Facts
 pub mod Nearest
 pub mod Evidence
 pub mod Dumps
-pub mod Meetings
 pub mod Counts
 pub mod Explanation
 pub mod Progress

@@ -9,13 +9,13 @@ use Rattle.nr_trace.specs.Orders.{recorded_order}
 use Rattle.nr_trace.specs.declared.event.Event.{Event}
 use Rattle.nr_trace.specs.declared.event.Event.TheVariants.{Call, Release, Reply, Touch}
 use Rattle.nr_joined.specs.Run.{Run, end_of}
-use Rattle.nr_touch.specs.Beside.{beside}
 use Rattle.nr_touch.specs.Tails.{IsTailOfRun}
 use Rattle.nr_touch.specs.declared.touches.tail.Tail.{Tail}
 use Rattle.nr_audit.specs.Segments.{run_after}
-use Rattle.nr_audit.specs.Start.{first_space, space_before, start_space}
+use Rattle.nr_audit.specs.Start.{space_before, start_space}
 use Rattle.nr_chain.specs.Bytes.{layout_before}
-use Rattle.nr_explain.specs.Meetings.{overlapping}
+use Rattle.nr_audit.specs.Met.{no_totals, sum_up, totals_with}
+use Rattle.nr_audit.specs.declared.met.Met.{Met}
 use Rattle.nr_explain.specs.declared.chain.progress.Sums.{Sums}
 use Rattle.nr_explain.specs.declared.chain.explanation.ChainCounts.{ChainCounts}
 
@@ -69,10 +69,6 @@ IsSeenOf came seen = ⊥
 
 -- ---- how much there is
 
--- a sum, but no more than 2 ^ 64 - 1
-abbrev pub sum_up : ℕ → ℕ → ℕ
-sum_up m n = min (m + n) (2 ^ 64 - 1)
-
 -- whether an event is a touch
 abbrev pub is_touch : Event → Bool
 is_touch (Call replica thread request) = false
@@ -93,26 +89,24 @@ is_there dump = nat_lt 0 (finite.len dump.frames)
 
 -- how much there is before the first segment
 abbrev pub nothing_yet : Sums
-nothing_yet = record { segments = 0; calls = 0; updates = 0; reads = 0; touches = 0; releases = 0; dumps = 0; overlapping = 0; beside = 0; bytes = 0 }
+nothing_yet = record { segments = 0; totals = no_totals; updates = 0; reads = 0; touches = 0; releases = 0; dumps = 0; bytes = 0 }
 
 -- how much there is so far
 abbrev pub sums_in : Option ChainState → Sums
 sums_in None = nothing_yet
 sums_in (Some last) = last.sums
 
--- with a segment more, of which so many touches were open beside an update, and which so many bytes spell: the calls of its order, the updates
--- among them, which are its log, and the others; and its answered updates and reads that overlap another one of it
-abbrev pub sums_after : Sums → Recording → ℕ → ℕ → Sums
-sums_after sums segment near bytes = record {
+-- with a segment more, of which so much is counted, and which so many bytes spell: the calls of its order, the updates among them, which are its log,
+-- and the others
+abbrev pub sums_after : Sums → Recording → Met → ℕ → Sums
+sums_after sums segment met bytes = record {
   segments = sum_up sums.segments 1;
-  calls = sum_up sums.calls (length (recorded_order segment));
+  totals = totals_with sums.totals (recorded_order segment) met;
   updates = sum_up sums.updates (length segment.log);
   reads = sum_up sums.reads (length (recorded_order segment) - length segment.log);
   touches = sum_up sums.touches (count_by is_touch segment.events);
   releases = sum_up sums.releases (count_by is_release segment.events);
   dumps = sum_up sums.dumps (count_by is_there segment.dumps);
-  overlapping = sum_up sums.overlapping (overlapping segment);
-  beside = sum_up sums.beside near;
   bytes = sum_up sums.bytes bytes;
 }
 
@@ -123,23 +117,19 @@ abbrev pub began_with : Option ChainState → Recording → Option Space
 began_with None segment = option_map (λ start. start_space segment.layout.depth (Some start)) segment.start
 began_with (Some last) segment = last.began
 
--- the touches of a segment that comes next that were open beside an update of it
-abbrev pub beside_in : Option ChainState → Recording → ℕ
-beside_in came segment = beside (first_space (space_in came) segment) segment
-
--- what is come to with a segment more, which so many bytes spell
-abbrev pub state_after : Option ChainState → Recording → ℕ → ChainState
-state_after came segment bytes = record {
+-- what is come to with a segment more, of which so much is counted, and which so many bytes spell
+abbrev pub state_after : Option ChainState → Recording → Met → ℕ → ChainState
+state_after came segment met bytes = record {
   run = run_after (run_in came) segment;
   began = began_with came segment;
-  sums = sums_after (sums_in came) segment (beside_in came segment) bytes;
+  sums = sums_after (sums_in came) segment met bytes;
 }
 
 -- how much a chain has whose segments have come to this
 abbrev pub counts_of : ChainState → ChainCounts
 counts_of last = record {
   segments = last.sums.segments;
-  calls = last.sums.calls;
+  calls = last.sums.totals.calls;
   updates = last.sums.updates;
   reads = last.sums.reads;
   touches = last.sums.touches;
@@ -147,6 +137,10 @@ counts_of last = record {
   dumps = last.sums.dumps;
   replicas = last.run.trace.layout.replicas;
   pages = length (pages (end_of last.run));
-  overlapping = last.sums.overlapping;
-  beside = last.sums.beside;
+  overlapping = last.sums.totals.met.overlapping;
+  beside = last.sums.totals.met.beside;
+  since_open = last.sums.totals.met.since_open;
+  since_kept = last.sums.totals.met.since_kept;
+  since_lagging = last.sums.totals.met.since_lagging;
+  repeated = last.sums.totals.met.repeated;
 }

@@ -5,7 +5,6 @@ pub mod Ends
 pub mod Searches
 pub mod Ways
 pub mod Itself
-pub mod Meetings
 pub mod Nearest
 pub mod Reaches
 pub mod Reading

@@ -4,5 +4,4 @@ pub(crate) mod all_dumps;
 pub(crate) mod counts;
 pub(crate) mod evidence;
 pub(crate) mod explaining;
-pub(crate) mod meetings;
 pub(crate) mod nearby;

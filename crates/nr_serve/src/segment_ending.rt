@@ -154,8 +154,8 @@ fn going_on<J: LogName, K: ReplicasName>(
     } = cut;
     let Written { trace, bytes } = written_segment(alloc, clock, pens, config, calls, dumps)?;
     let bytes = TraceBytes::of(bytes);
-    match judge_segment(alloc, &trace, past) {
-        Ok((order, after)) => {
+    match judge_segment(alloc, &trace, past, false) {
+        Ok((order, after, _)) => {
             let answers = Answers::of(answers);
             let past = Some(after);
             let between = Between {
@@ -201,8 +201,8 @@ fn last<J: LogName, K: ReplicasName>(
     let (calls, dumps, passes) = settled(replicas, passes)?;
     let Written { trace, bytes } = written_segment(alloc, clock, pens, config, calls, dumps)?;
     let bytes = TraceBytes::of(bytes);
-    match judge_segment(alloc, &trace, past) {
-        Ok((order, _after)) => {
+    match judge_segment(alloc, &trace, past, false) {
+        Ok((order, _after, _)) => {
             let answers = Answers::of(answers);
             let passes = Passes::of(passes);
             Ok(SegmentOutcome::Last {

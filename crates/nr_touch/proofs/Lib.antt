@@ -33,3 +33,4 @@ pub mod TouchesBeside
 pub mod Undone
 pub mod Walked
 pub mod cuts
+pub mod Excused

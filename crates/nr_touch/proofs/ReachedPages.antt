@@ -36,7 +36,7 @@ use Rattle.nr_touch.specs.declared.releases.seen.Seen.{Seen}
 use Rattle.nr_touch.specs.declared.touches.touch.Touch.{Touch}
 use Rattle.nr_touch.proofs.Blocks.{frame_covered, in_frame, of_frames}
 use Rattle.nr_touch.proofs.cuts.Ended.{change_within, ended_before, ends_changes}
-use Rattle.nr_touch.proofs.cuts.Tails.{own_right, parts_behind}
+use Rattle.nr_touch.proofs.cuts.Tails.{parts_behind}
 use Rattle.nr_touch.proofs.NextChanges.{first_within, same_within, FirstWithin, NoneWithin}
 use Rattle.nr_touch.proofs.Sizes.{covered_numbered, own_number}
 
@@ -220,11 +220,11 @@ module _ (start : Space) (segment : Recording) (own : List PlacedChange) (are : 
     pub finds_right : (before : Option Run) → GoesOn before segment start → AreOfRun before earlier → (b phys n : ℕ) → phys ≡ page.phys + (b - page.base)
         → FindsAt start segment earlier event page b n → IsRightBehind before start segment (probe_at event b phys)
     finds_right before goes_on of_run b phys n is (inl (allowed, at)) =
-        own_right start segment earlier (probe_at event b phys) before goes_on of_run (inl (
+        (parts_behind start segment earlier (probe_at event b phys) before goes_on of_run).1 (inl (inl (
           n,
           record { within = allowed.within; flushed = allowed.flushed; not_foreseen = allowed.not_foreseen },
           ap Allowed is ∙ probed b page ∙ ap (allow_in_page b Supervisor Read) (sym at),
-        ))
+        )))
     finds_right before goes_on of_run b phys n is (inr (none, it)) =
         (parts_behind start segment earlier (probe_at event b phys) before goes_on of_run).1 (inr (Some page, none, it, ap Allowed is ∙ probed b page))
 

@@ -1,28 +1,25 @@
 -- The walk of a touch through the states of its address that are allowed.
-use Rattle.std.proofs.Common.{◌≡◌, ℕ, ◌+◌, ◌<◌, ◌≤◌, ◌^◌, ◌⊎◌, ◌↔◌, inl, inr, Bool, true, false, List, get_or, length, take, slice_get, Option}
+use Rattle.std.proofs.Common.{◌≡◌, ℕ, ◌<◌, ◌≤◌, ◌^◌, ◌⊎◌, ◌↔◌, inl, inr, Bool, List, length, take, slice_get, Option}
 use Rattle.std.proofs.Common.{Some, None, IsSomeAnd, IsTrue}
 use Rattle.std.specs.Prelude.{is_some}
 use Rattle.std.proofs.Common.{sym, ap, ◌∙◌, subst, arith}
 use Rattle.std.proofs.Math.Seq.{take-length}
 use Rattle.std.specs.List.Sorted.{IsPermutation}
 use Rattle.std.proofs.lemmas.List.Sorted.{IsPermutation-sym, Contains-permutation}
-use Rattle.std.proofs.lemmas.Option.{same_Some, slice_get_within, slice_get-get_or}
-use Rattle.std.proofs.lemmas.Bool.{cases_lt, false≢true}
-use Rattle.nr_touch.specs.Stale.{AreRightBelow, FindsStale}
+use Rattle.std.proofs.lemmas.Option.{same_Some, slice_get_within}
+use Rattle.std.proofs.lemmas.Bool.{cases_lt}
 use Rattle.vs_types.specs.Space.{Space, page_at}
 use Rattle.vs_types.specs.Step.{allow, allow_in_page}
 use Rattle.vs_types.specs.declared.page.Page.{Page}
 use Rattle.nr_trace.specs.Recording.{Recording}
 use Rattle.nr_trace.specs.Orders.{space_from}
-use Rattle.nr_joined.specs.Run.{Run}
-use Rattle.nr_touch.specs.Touches.{page_after, ChangesLook, IsAnsweredAt, IsAnsweredInTime, IsMadeAfter, IsRightBehind}
+use Rattle.nr_touch.specs.Touches.{page_after, ChangesLook, IsAllowedPrefix, IsAnsweredAt, IsAnsweredInTime, IsMadeAfter}
 use Rattle.nr_touch.specs.inside.Changes.{ended_at, AreChanges}
 use Rattle.nr_touch.specs.inside.Columns.{Covers, IsPast, IsAhead, IsNext}
 use Rattle.nr_touch.specs.inside.Sights.{IsAnsweredBetween}
 use Rattle.nr_touch.specs.inside.Walk.{shown, IsAnsweredWithin}
 use Rattle.nr_touch.specs.declared.changes.change.PlacedChange.{PlacedChange}
 use Rattle.nr_touch.specs.declared.touches.touch.Touch.{Touch}
-use Rattle.nr_touch.proofs.Lefts.{below_more}
 use Rattle.nr_touch.proofs.NextChanges.{next_change, same_within}
 use Rattle.nr_touch.proofs.cuts.Ended.{ends_past, past_ends}
 
@@ -82,24 +79,27 @@ module _ (start : Space) (trace : Recording) (changes : List PlacedChange) (are 
           → IsPast changes (λ c. Covers touch.address c × (ended_at (is_some page) c < touch.made)) first
       past_so page answered = subst (λ b. IsPast changes (λ c. Covers touch.address c × (ended_at b c < touch.made)) first) (sees page answered) past
 
+      -- entries after which the touch is answered so are allowed where they lie between
+      pub allowed_so : (n : ℕ) → IsAnsweredAt start trace touch n → IsAllowedPrefix start trace touch n ↔ ((first ≤ n) × (n ≤ last))
+      allowed_so n answered =
+          let look = page_after start trace touch.address n in (
+            λ is. (
+              past_ends start trace touch.address touch.made fits changes are look first (past_so look answered) n is.flushed,
+              up_to_foreseen n is.within is.not_foreseen,
+            ),
+            λ (low, high). record {
+              within = let most = last_within in omega (arith, most, high);
+              flushed = λ place ends early.
+                  let less = ends_past start trace touch.address touch.made fits changes are look first (past_so look answered) place ends early in
+                  omega (arith, less, low);
+              not_foreseen = none_foreseen n high;
+            },
+          )
+
       pub in_time : IsAnsweredInTime start trace touch ↔ IsAnsweredWithin start trace touch first last
       in_time = (
-        λ (n, is, answered).
-            let look = page_after start trace touch.address n in
-            let low = past_ends start trace touch.address touch.made fits changes are look first (past_so look answered) n is.flushed in
-            (n, low, up_to_foreseen n is.within is.not_foreseen, answered),
-        λ (n, low, high, answered).
-            let look = page_after start trace touch.address n in (
-              n,
-              record {
-                within = let most = last_within in omega (arith, most, high);
-                flushed = λ place ends early.
-                    let less = ends_past start trace touch.address touch.made fits changes are look first (past_so look answered) place ends early in
-                    omega (arith, less, low);
-                not_foreseen = none_foreseen n high;
-              },
-              answered,
-            ),
+        λ (n, is, answered). let (low, high) = (allowed_so n answered).0 is in (n, low, high, answered),
+        λ (n, low, high, answered). (n, (allowed_so n answered).1 (low, high), answered),
       )
 
   -- ---- how an address looks until its next change
@@ -164,20 +164,3 @@ permuted start trace xs ys same are = record {
       let (c, has, at, covered) = are.all place address l looks in
       (c, Contains-permutation xs ys c same has, at, covered);
 }
-
--- ---- touch by touch
-
-module _ (before : Option Run) (start : Space) (segment : Recording) (touches : List Touch) (index : ℕ) (d : Touch) (r : Bool) (l : index < length touches)
-    (judged : IsTrue r ↔ IsRightBehind before start segment (get_or touches index d)) (right : AreRightBelow before start segment touches index) where
-  pub stale_at : r ≡ false → FindsStale before start segment touches (Some index)
-  stale_at wrong =
-      (get_or touches index d, slice_get-get_or touches index d l, (λ is. let yes = judged.1 is in false≢true (sym wrong ∙ yes)), right)
-
-  pub right_to : r ≡ true → AreRightBelow before start segment touches (index + 1)
-  right_to judged_right = below_more (λ k touch. IsRightBehind before start segment touch) touches index d l right (judged.0 judged_right)
-
-pub none_stale : (before : Option Run) (start : Space) (segment : Recording) (touches : List Touch) (end : ℕ) → length touches ≤ end
-    → AreRightBelow before start segment touches end
-    → FindsStale before start segment touches None
-none_stale before start segment touches end all right index touch at =
-    right index touch (let low = slice_get_within touches index touch at in omega (arith, low, all)) at

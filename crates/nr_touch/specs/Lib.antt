@@ -5,6 +5,7 @@ pub mod Looks
 pub mod Releases
 pub mod Replies
 pub mod Beside
+pub mod Excuses
 pub mod inside
 pub use Rattle.vs_types.specs.Space
 pub use Rattle.vs_types.specs.Step

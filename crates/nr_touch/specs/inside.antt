@@ -18,3 +18,4 @@ pub mod Sights
 pub mod Stays
 pub mod Undo
 pub mod Walk
+pub mod Excused

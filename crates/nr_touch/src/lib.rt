@@ -10,10 +10,10 @@ pub mod laws;
 mod releases;
 mod touches;
 
-pub use changes::replay::replies;
+pub use changes::replay::{replies, space_after};
 pub use releases::reaching::reached;
 pub use releases::release::Release;
-pub use touches::beside::touches_beside;
+pub use touches::excuse::Excuse;
 pub use touches::stale::{Followed, follow};
 pub use touches::tail::Tail;
 pub use touches::touch::Touch;

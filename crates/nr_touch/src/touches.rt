@@ -2,6 +2,7 @@
 
 pub(crate) mod beside;
 pub(crate) mod between;
+pub(crate) mod excuse;
 pub(crate) mod looks;
 pub(crate) mod stale;
 pub(crate) mod tail;

@@ -12,6 +12,7 @@ use Rattle.nr_audit.specs.declared.verdict.Verdict.TheVariants.{Yes}
 use Rattle.nr_audit.proofs.PartsOfVerdicts.{same_of}
 use Rattle.nr_script.specs.declared.script.Script.{Script}
 use Rattle.audit_readers.specs.Answers.{IsAudit, WritesReport}
+use Rattle.audit_readers.proofs.Audits.{same_status}
 use Rattle.nrvs.specs.Simulation.{HasReadScript, IsRecordingOfScript, IsSimulation, IsSimulationFault, IsTold}
 use Rattle.vs_types.specs.declared.depth.Depth.{Depth}
 use Rattle.audit_readers.specs.declared.fault.ProgFault.{ProgFault}
@@ -22,7 +23,7 @@ pub as_bytes : (as_trace : Bool) (trace : Recording) (text : List ℕ) → as_tr
 as_bytes true trace text asked same = (same, refl)
 as_bytes false trace text asked same = cc
 
-pub as_verdict : (as_trace : Bool) (trace : Recording) (text : List ℕ) (status : ℕ) → as_trace ≡ false → IsAudit false (spelling trace) text status
+pub as_verdict : (as_trace : Bool) (trace : Recording) (text : List ℕ) (status : ℕ) → as_trace ≡ false → IsAudit false 0 (spelling trace) text status
     → IsTold as_trace trace text status
 as_verdict true trace text status asked audit = cc
 as_verdict false trace text status asked audit = audit
@@ -36,10 +37,10 @@ spells_itself trace of within = record { of_form = of; follows = tt; in_range = 
 
 -- what is right has the status of yes
 pub status_of_yes : (trace : Recording) (text : List ℕ) (status : ℕ) → IsVersionOf forms.Trace trace.version → IsRecording trace → IsFaultless trace
-    → IsAudit false (spelling trace) text status → status ≡ 0
+    → IsAudit false 0 (spelling trace) text status → status ≡ 0
 status_of_yes trace text status of within faultless audit =
     let yes = same_of (spelling trace) audit.verdict (Yes (recorded_order trace)) audit.is_verdict (trace, spells_itself trace of within, faultless, refl) in
-    audit.status_is ∙ ap verdict_status yes
+    audit.status_is ∙ same_status audit.verdict audit.count ∙ ap verdict_status yes
 
 pub writes_what_is_told : (setup : Setup) (as_trace : Bool) (known old new : Option (List ℕ)) (script : Script) (trace : Recording) (text : List ℕ) (status : ℕ)
     → HasReadScript setup.depth known script → IsRecordingOfScript setup script trace → IsTold as_trace trace text status → Appends old new text

@@ -30,7 +30,7 @@ IsRecordingOfScript setup script trace = IsRecordingOf
 -- what is written of a trace: its bytes, where these are asked for; else what `audit` says of them
 abbrev pub IsTold : Bool → Recording → List ℕ → ℕ → Type 0
 IsTold true trace text status = (text ≡ spelling trace) × (status ≡ 0)
-IsTold false trace text status = IsAudit false (spelling trace) text status
+IsTold false trace text status = IsAudit false 0 (spelling trace) text status
 
 -- the answer of `simulate`: the bytes, not too many, are a script, and a recording of the core after its steps is written
 pub record IsSimulation (setup : Setup) (as_trace : Bool) (bytes text : List ℕ) (status : ℕ) : Type 0 where

@@ -1,6 +1,6 @@
 //! The audit for C: bytes are judged, and the verdict is given in numbers.
 //!
-//! A call allocates on the C library's heap, and frees all of it before it returns.
+//! A call allocates on the heap that is linked with it, and frees all of it before it returns.
 #![tactic(auto)]
 
 mod export;

@@ -81,7 +81,7 @@ pub fn unreached_frames_are_unread()
         → walk depth new root address ≡ walk depth old root address }
 {}
 
-/// A plan for one root is right for each other root beside it that may share the tables below. Let any number of its stores be made. An
+/// A plan for one root is right for each other root beside it (`IsBeside`), which may share the tables below. Let any number of its stores be made. An
 /// address whose root entries lead to one table is then walked alike from both roots, and one that meets no table on the way of the
 /// plan's base is walked as before. No frame that was unlinked is reached, and the flush suffices for processors that walk from the
 /// other root.

@@ -1,9 +1,11 @@
 -- A chain that was read to its end or to its first fault, and what is said of its pages. No public clause cites this file.
-use Rattle.std.specs.Prelude.{◌≡◌, ◌⊎◌, ℕ, Bool, List, [], length, Option, Some, None, ⊤}
+use Rattle.std.specs.Prelude.{◌≡◌, ◌⊎◌, ℕ, Bool, true, false, List, [], length, Option, Some, None, ⊤}
 use Rattle.std.specs.Io.KnownBytes.{Appends, Consumes, IsAtEnd}
 use Rattle.vs_types.specs.Space.{pages, IsSpace}
 use Rattle.nr_trace.specs.declared.fault.Fault.{Fault}
 use Rattle.nr_joined.specs.Run.{Run, end_of}
+use Rattle.nr_audit.specs.Met.{no_totals}
+use Rattle.nr_audit.specs.declared.met.Totals.{Totals}
 use Rattle.nr_chain.specs.Fed.{IsKeptOf}
 use Rattle.nr_chain.specs.Bytes.{EndsWith}
 use Rattle.nr_chain.specs.Verdict.{LastsNext}
@@ -15,20 +17,27 @@ use Rattle.audit_readers.specs.declared.chain.audit.Judged.TheVariants.{Ended, F
 use Rattle.audit_texts.specs.declared.chain.style.Style.{Style}
 
 -- what the reader has lost are right segments and others behind them, and the lines of these segments were written
-pub record IsAt (style : Style) (known left old new : Option (List ℕ)) (last : Option Run) (rest : List ℕ) (count : ℕ) : Type 0 where
+pub record IsAt (style : Style) (known left old new : Option (List ℕ)) (last : Option Run) (rest : List ℕ) (count : ℕ)
+    (begun totals : Option Totals) : Type 0 where
   pub read : List ℕ
   pub consumed : Consumes known left read
   pub orders : List (List ℕ)
-  pub goes_on : GoesOnTo None read orders last rest
+  pub goes_on : GoesOnTo None read orders last rest begun totals
   pub counted : count ≡ length orders
   pub written : Appends old new (shown_lines style 0 orders)
 
+-- what is counted before the first segment, if it is asked
+abbrev pub totals_begun : Bool → Option Totals
+totals_begun true = Some no_totals
+totals_begun false = None
+
 -- the input has ended; or the next segment has a fault, whatever comes behind
-abbrev pub HasJudged : Style → Option (List ℕ) → Option (List ℕ) → Option (List ℕ) → Option (List ℕ) → Judged → Type 0
-HasJudged style known left old new (Ended chain count) =
-    (last : Option Run) × IsKeptOf last chain.kept × IsAt style known left old new last chain.bytes count × IsAtEnd left
-HasJudged style known left old new (Faulty count fault) =
-    (last : Option Run) × (rest : List ℕ) × IsAt style known left old new last rest count × LastsNext last rest fault × (rest ≡ [] → ⊥)
+abbrev pub HasJudged : Style → Bool → Option (List ℕ) → Option (List ℕ) → Option (List ℕ) → Option (List ℕ) → Judged → Type 0
+HasJudged style counts known left old new (Ended chain count totals) =
+    (last : Option Run) × IsKeptOf last chain.kept × IsAt style known left old new last chain.bytes count (totals_begun counts) totals × IsAtEnd left
+HasJudged style counts known left old new (Faulty count fault) =
+    (last : Option Run) × (rest : List ℕ) × (totals : Option Totals) × IsAt style known left old new last rest count (totals_begun counts) totals
+    × LastsNext last rest fault × (rest ≡ [] → ⊥)
 
 -- the text is that of the pages after the last segment, if there is one
 abbrev pub IsTextAfter : Bool → Option Run → List ℕ → Type 0
@@ -50,6 +59,6 @@ pub record SaysFault (count : ℕ) (fault : Fault) (text : List ℕ) (status : �
   pub status_is : status ≡ 1
 
 abbrev pub SaysEnd : Bool → Judged → List ℕ → ℕ → Type 0
-SaysEnd as_ranges (Ended chain count) text status = (run : Option Run) → IsKeptOf run chain.kept → SaysPages as_ranges run chain.bytes text status
+SaysEnd as_ranges (Ended chain count totals) text status = (run : Option Run) → IsKeptOf run chain.kept → SaysPages as_ranges run chain.bytes text status
     ⊎ ((fault : Fault) × EndsWith run chain.bytes (Some fault) × SaysFault count fault text status)
 SaysEnd as_ranges (Faulty count fault) text status = SaysFault count fault text status

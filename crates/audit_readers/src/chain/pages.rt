@@ -117,7 +117,7 @@ fn judge_first(alloc: Global, segment: &Trace) -> Result<(), Fail<Fault>>
     ensures sound { OnOk result (IsSoundAfter None segment.now) }
     ensures first { IfErr result (IfRefused (IsFirstAfter None segment.now)) }
 {
-    match judge_segment(alloc, segment, None) {
+    match judge_segment(alloc, segment, None, false) {
         Ok(_) => Ok(()),
         Err(fail) => Err(fail),
     }
@@ -212,7 +212,7 @@ fn end_report(alloc: Global, judged: Judged, as_ranges: bool) -> Result<Report, 
         (λ report. SaysEnd as_ranges judged (string_bytes report.text) report.status) }
 {
     match judged {
-        Judged::Ended(chain, number) => {
+        Judged::Ended(chain, number, _) => {
             let text = last_text(alloc, &chain, as_ranges);
             let found = chain.end();
             let text = text?;
@@ -260,6 +260,7 @@ pub fn chain_end_io<R: Source, W: Write>(
         &mut io::sink(),
         &mut [0; BLOCK],
         style,
+        false,
         &mut nobody,
     )?;
     let report = end_report(alloc, judged, as_ranges)?;

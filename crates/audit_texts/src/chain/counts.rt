@@ -13,7 +13,7 @@ use serde_json::Value;
 use std::alloc::{AllocError, Global};
 
 #[tactic(auto, unfolding(crate::specs::ChainEvidence::chain_counts_parts))]
-fn chain_counts_parts<'a>(counts: ChainCounts) -> [Part<'a>; 21]
+fn chain_counts_parts<'a>(counts: ChainCounts) -> [Part<'a>; 29]
     ensures { map part_of result ≡ chain_counts_parts counts }
 {
     [
@@ -37,6 +37,14 @@ fn chain_counts_parts<'a>(counts: ChainCounts) -> [Part<'a>; 21]
         Part::InBoth("overlapping", Says::Count(counts.overlapping)),
         Part::Words("\ntouches beside an update: "),
         Part::InBoth("beside", Says::Count(counts.beside)),
+        Part::Words("\ntouches right since an update was open: "),
+        Part::InBoth("open", Says::Count(counts.since_open)),
+        Part::Words("\nfaults by kept rights: "),
+        Part::InBoth("kept", Says::Count(counts.since_kept)),
+        Part::Words("\nfaults by a lagging table: "),
+        Part::InBoth("lagging", Says::Count(counts.since_lagging)),
+        Part::Words("\nmost of these by one thread at one address: "),
+        Part::InBoth("repeated", Says::Count(counts.repeated)),
         Part::Words("\n"),
     ]
 }

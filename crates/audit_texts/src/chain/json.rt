@@ -6,9 +6,11 @@ ghost use Rattle.serde_json.specs.View.{members_view, view};
 ghost use Rattle.audit_texts.specs.AuditJson.{right_members};
 ghost use Rattle.audit_texts.specs.ChainJson.{end_json, end_members, segment_json};
 ghost use Rattle.audit_texts.specs.EvidenceJson.{number_data};
+ghost use Rattle.nr_audit.specs.declared.met.Totals.{Totals as TotalsRow};
 
 use crate::audit_json::{json_line, put_fault, put_right};
 use crate::fact_json::Members;
+use nr_audit::Totals;
 use nr_trace::Fault;
 use serde_json::{Map, Value, put};
 use std::alloc::{AllocError, Global};
@@ -32,11 +34,24 @@ pub(crate) fn segment_json(alloc: Global, number: u64, calls: usize) -> Result<S
     json_line(alloc, &value)
 }
 
-/// Puts how many segments a right chain has.
-fn put_segments(members: &mut Members, alloc: Global, number: u64) -> Result<(), AllocError>
+/// Puts how many segments a right chain has, and what is counted of them.
+fn put_segments(
+    members: &mut Members,
+    alloc: Global,
+    number: u64,
+    totals: Totals,
+) -> Result<(), AllocError>
     requires { members.old.entries ≡ [] }
-    ensures { OnOk result (members_view members.new.entries ≡ end_members number None) }
+    ensures { OnOk result (members_view members.new.entries ≡ end_members number totals None) }
 {
+    let met = totals.met;
+    put(members, alloc, "beside", Value::from(met.beside))?;
+    put(members, alloc, "calls", Value::from(totals.calls))?;
+    put(members, alloc, "kept", Value::from(met.since_kept))?;
+    put(members, alloc, "lagging", Value::from(met.since_lagging))?;
+    put(members, alloc, "open", Value::from(met.since_open))?;
+    put(members, alloc, "overlapping", Value::from(met.overlapping))?;
+    put(members, alloc, "repeated", Value::from(met.repeated))?;
     put(members, alloc, "segments", Value::from(number))?;
     let verdict = format!(in alloc; "segments {number}")?;
     put(members, alloc, "verdict", Value::String(verdict))
@@ -50,7 +65,8 @@ fn put_wrong(
     fault: Fault,
 ) -> Result<(), AllocError>
     requires { members.old.entries ≡ [] }
-    ensures { OnOk result (members_view members.new.entries ≡ end_members number (Some fault)) }
+    ensures { (totals : TotalsRow) → OnOk result
+        (members_view members.new.entries ≡ end_members number totals (Some fault)) }
 {
     put_fault(members, alloc, fault)?;
     put(members, alloc, "segment", Value::from(number))
@@ -60,23 +76,29 @@ fn put_end(
     members: &mut Members,
     alloc: Global,
     number: u64,
+    totals: Totals,
     found: Option<Fault>,
 ) -> Result<(), AllocError>
     requires { members.old.entries ≡ [] }
-    ensures { OnOk result (members_view members.new.entries ≡ end_members number found) }
+    ensures { OnOk result (members_view members.new.entries ≡ end_members number totals found) }
 {
     match found {
-        None => put_segments(members, alloc, number),
+        None => put_segments(members, alloc, number, totals),
         Some(fault) => put_wrong(members, alloc, number, fault),
     }
 }
 
 /// The object at the end of a chain of which so many segments are right.
-fn end_value(alloc: Global, number: u64, found: Option<Fault>) -> Result<Value, AllocError>
-    ensures { IfOk result (λ value. view value ≡ object (end_members number found)) }
+fn end_value(
+    alloc: Global,
+    number: u64,
+    totals: Totals,
+    found: Option<Fault>,
+) -> Result<Value, AllocError>
+    ensures { IfOk result (λ value. view value ≡ object (end_members number totals found)) }
 {
     let mut members = Map::new(alloc);
-    put_end(&mut members, alloc, number, found)?;
+    put_end(&mut members, alloc, number, totals, found)?;
     Ok(Value::Object(members))
 }
 
@@ -84,10 +106,11 @@ fn end_value(alloc: Global, number: u64, found: Option<Fault>) -> Result<Value, 
 pub(crate) fn end_json(
     alloc: Global,
     number: u64,
+    totals: Totals,
     found: Option<Fault>,
 ) -> Result<String, AllocError>
-    ensures { IfOk result (λ text. string_bytes text ≡ end_json number found) }
+    ensures { IfOk result (λ text. string_bytes text ≡ end_json number totals found) }
 {
-    let value = end_value(alloc, number, found)?;
+    let value = end_value(alloc, number, totals, found)?;
     json_line(alloc, &value)
 }

@@ -5,6 +5,7 @@ ghost use Rattle.audit_texts.specs.ChainText.{end_lines, segment_lines, told_end
 
 use crate::chain::json::{end_json, segment_json};
 use crate::text::{fault_text, yes_text};
+use nr_audit::Totals;
 use nr_trace::Fault;
 use std::alloc::{AllocError, Global};
 
@@ -63,8 +64,8 @@ pub fn told_segment(
     }
 }
 
-/// What is printed at the end of a chain of which so many segments are right: a JSON object on a line, or the last lines. Allocates the
-/// text, and the object.
+/// What is printed at the end of a chain of which so many segments are right: a JSON object on a line, or the last lines. The object of a
+/// right chain has what is counted of it, which the lines leave out. Allocates the text, and the object.
 ///
 /// # Errors
 ///
@@ -73,12 +74,13 @@ pub fn told_end(
     alloc: Global,
     as_json: bool,
     number: u64,
+    totals: Totals,
     found: Option<Fault>,
 ) -> Result<String, AllocError>
-    ensures { IfOk result (λ text. string_bytes text ≡ told_end as_json number found) }
+    ensures { IfOk result (λ text. string_bytes text ≡ told_end as_json number totals found) }
 {
     if as_json {
-        end_json(alloc, number, found)
+        end_json(alloc, number, totals, found)
     } else {
         end_lines(alloc, number, found)
     }

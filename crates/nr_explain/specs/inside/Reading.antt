@@ -64,7 +64,7 @@ began_seen (Some last) segment = last.began
 abbrev pub counts_seen : Seen → ChainCounts
 counts_seen last = record {
   segments = last.sums.segments;
-  calls = last.sums.calls;
+  calls = last.sums.totals.calls;
   updates = last.sums.updates;
   reads = last.sums.reads;
   touches = last.sums.touches;
@@ -72,8 +72,12 @@ counts_seen last = record {
   dumps = last.sums.dumps;
   replicas = last.layout.replicas;
   pages = length (pages last.space);
-  overlapping = last.sums.overlapping;
-  beside = last.sums.beside;
+  overlapping = last.sums.totals.met.overlapping;
+  beside = last.sums.totals.met.beside;
+  since_open = last.sums.totals.met.since_open;
+  since_kept = last.sums.totals.met.since_kept;
+  since_lagging = last.sums.totals.met.since_lagging;
+  repeated = last.sums.totals.met.repeated;
 }
 
 -- the evidence shows the fault of a segment that comes next, by what is kept

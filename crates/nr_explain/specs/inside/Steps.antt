@@ -5,6 +5,9 @@ use Rattle.nr_trace.specs.FirstFault.{HasSegmentFault}
 use Rattle.nr_trace.specs.Spelling.{SpellsSegment}
 use Rattle.nr_trace.specs.declared.fault.Format.TheVariants.{Truncated}
 use Rattle.nr_audit.specs.Faults.{IsFirstAfter, IsSoundAfter}
+use Rattle.nr_audit.specs.Met.{HasMet}
+use Rattle.nr_audit.specs.Start.{begins_in}
+use Rattle.nr_audit.specs.declared.met.Met.{Met}
 use Rattle.nr_trace.specs.declared.fault.Fault.TheVariants as faults
 use Rattle.nr_trace.specs.declared.fault.Format.{Format}
 use Rattle.nr_explain.specs.Progress.{ChainState, ReaderState, state_after, layout_in, run_in, sums_in, IsSeenOf}
@@ -15,9 +18,11 @@ use Rattle.nr_explain.specs.declared.chain.explanation.ChainExplanation.TheVaria
 use Rattle.nr_explain.specs.declared.chain.reader.Step.{Step}
 use Rattle.nr_explain.specs.declared.chain.reader.Step.TheVariants.{More, Right, Wrong}
 
--- with a segment more, which so many bytes spell, the reader has come to this, and of the next one nothing has come
+-- with a segment more, of which so much is counted, and which so many bytes spell, the reader has come to this, and of the next one nothing has come
 pub record HasGoneOn (came : Option ChainState) (segment : Recording) (bytes : ℕ) (new : ReaderState) : Type 0 where
-  pub seen : IsSeenOf (Some (state_after came segment bytes)) new.state
+  pub met : Met
+  pub counted : HasMet (run_in came) (begins_in (run_in came) segment) segment met
+  pub seen : IsSeenOf (Some (state_after came segment met bytes)) new.state
   pub none : new.bytes ≡ []
 
 -- the whole piece is taken, and there are too few bytes; or so many bytes at its front end a segment that is right; or one with it is not

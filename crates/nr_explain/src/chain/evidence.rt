@@ -1,7 +1,7 @@
 //! What shows each fault of a segment.
 
 ghost use Rattle.std.specs.Prelude.{◌≡◌};
-ghost use Rattle.nr_explain.specs.Progress.{sum_up};
+ghost use Rattle.nr_audit.specs.Met.{sum_up};
 
 use crate::trace::evidence::{
     Difference, Evidence, MissingTable, OtherAnswer, PlacedUpdate, RecordedCall, RecordedReply,

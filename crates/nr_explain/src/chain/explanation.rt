@@ -22,6 +22,14 @@ pub struct ChainCounts {
     pub overlapping: u64,
     /// The answered touches that were open while an update of their segment was that changes how their address looks.
     pub beside: u64,
+    /// The touches that are right only since an update of their address is open.
+    pub since_open: u64,
+    /// The faults that are right only by rights that were kept after an answered update that gave more.
+    pub since_kept: u64,
+    /// The faults that are right only by a table that lags.
+    pub since_lagging: u64,
+    /// The most of these faults, by kept rights or a table that lags, of one thread at one address in one segment.
+    pub repeated: u64,
 }
 
 /// What an audit of a chain finds, and what shows it.

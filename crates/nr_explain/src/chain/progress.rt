@@ -3,7 +3,6 @@
 ghost use Rattle.std.specs.Prelude.{◌≡◌, ◌<◌, IfOk, IfSome, None, count_by, length, option_map};
 ghost use Rattle.nr_trace.specs.Laws.{HasCleanLog};
 ghost use Rattle.nr_trace.specs.Orders.{recorded_order, space_from};
-ghost use Rattle.nr_touch.specs.Beside.{beside};
 ghost use Rattle.nr_touch.specs.Tails.{HasIndexes, IsSoundTail};
 ghost use Rattle.nr_audit.specs.Verdict.{space_of};
 ghost use Rattle.nr_audit.specs.Start.{first_space};
@@ -13,9 +12,8 @@ ghost use Rattle.nr_explain.specs.inside.Reading.{IsCopyOf, IsTwice};
 
 use crate::chain::explanation::ChainCounts;
 use crate::chain::spaces::{begin_first, start_space};
-use crate::trace::meetings::overlapping;
-use nr_audit::{Order, Past};
-use nr_touch::{Tail, touches_beside};
+use nr_audit::{Met, Order, Past, Totals};
+use nr_touch::{Tail, space_after};
 use nr_trace::{Event, Trace, TraceLayout};
 use std::alloc::Global;
 use vs_plain::PlainSpace;
@@ -25,16 +23,13 @@ use vs_types::Memory;
 #[derive(Clone, Copy)]
 pub(crate) struct Sums {
     pub(crate) segments: u64,
-    pub(crate) calls: u64,
+    /// What is counted of them.
+    pub(crate) totals: Totals,
     pub(crate) updates: u64,
     pub(crate) reads: u64,
     pub(crate) touches: u64,
     pub(crate) releases: u64,
     pub(crate) dumps: u64,
-    /// The answered updates and reads that were open while another one of their segment was.
-    pub(crate) overlapping: u64,
-    /// The answered touches that were open while an update of their segment was that changes how their address looks.
-    pub(crate) beside: u64,
     /// The bytes that spell them.
     pub(crate) bytes: u64,
 }
@@ -45,14 +40,12 @@ impl Sums {
     {
         Sums {
             segments: 0,
-            calls: 0,
+            totals: Totals::none(),
             updates: 0,
             reads: 0,
             touches: 0,
             releases: 0,
             dumps: 0,
-            overlapping: 0,
-            beside: 0,
             bytes: 0,
         }
     }
@@ -126,34 +119,23 @@ fn dumps_in(segment: &Trace) -> usize
         .count()
 }
 
-/// How much there is with a segment more, of which this is the order, of which so many touches were open beside an update, and which so many
-/// bytes spell. Allocates four bytes for each event.
-fn sums_after(
-    alloc: Global,
-    sums: Sums,
-    segment: &Trace,
-    order: &Order,
-    near: u64,
-    size: usize,
-) -> Result<Sums, Memory>
+/// How much there is with a segment more, of which this is the order, of which so much is counted, and which so many bytes spell.
+fn sums_after(sums: Sums, segment: &Trace, order: &Order, met: Met, size: usize) -> Sums
     requires { order.now ≡ recorded_order segment.now }
-    ensures { IfOk result (λ after. after ≡ sums_after sums segment.now near size) }
+    ensures { result ≡ sums_after sums segment.now met size }
 {
-    let meeting = overlapping(alloc, segment)?;
     let calls = order.calls().len() as u64;
     let updates = segment.log().len() as u64;
-    Ok(Sums {
+    Sums {
         segments: sums.segments.saturating_add(1),
-        calls: sums.calls.saturating_add(calls),
+        totals: sums.totals.with(order, met),
         updates: sums.updates.saturating_add(updates),
         reads: sums.reads.saturating_add(calls - updates),
         touches: sums.touches.saturating_add(touches_in(segment) as u64),
         releases: sums.releases.saturating_add(releases_in(segment) as u64),
         dumps: sums.dumps.saturating_add(dumps_in(segment) as u64),
-        overlapping: sums.overlapping.saturating_add(meeting),
-        beside: sums.beside.saturating_add(near),
         bytes: sums.bytes.saturating_add(size as u64),
-    })
+    }
 }
 
 /// The space with which a segment begins, with whose start nothing is wrong, and that with which the chain begins, where its first segment
@@ -180,7 +162,7 @@ fn spaces_before(
     }
 }
 
-/// What is come to with a segment more, of which this is the order, which leaves this, and which so many bytes spell, by a copy of
+/// What is come to with a segment more, of which this is the order and so much is counted, which leaves this, and which so many bytes spell, by a copy of
 /// what it leaves; and what it leaves. It allocates two spaces where the segment is the first, and memory for the pages that its log maps, the
 /// changes that its updates make, and the copy.
 pub(crate) fn go_on(
@@ -188,6 +170,7 @@ pub(crate) fn go_on(
     last: Option<Progress>,
     segment: &Trace,
     order: &Order,
+    met: Met,
     after: Past,
     size: usize,
 ) -> Result<(Progress, Past), Memory>
@@ -208,14 +191,13 @@ pub(crate) fn go_on(
     ensures began { IfOk result (λ done.
         (state_of done.0).began ≡ began_seen (all_states last) segment.now) }
     ensures sums { IfOk result (λ done.
-        done.0.sums ≡ sums_after (sums_seen (all_states last)) segment.now
-        (beside (first_space (space_seen (all_states last)) segment.now) segment.now) size) }
+        done.0.sums ≡ sums_after (sums_seen (all_states last)) segment.now met size) }
 {
     let sums = sums_of(&last);
     let layout = segment.layout();
     let (first, began) = spaces_before(alloc, last, segment)?;
-    let (near, space) = touches_beside(alloc, segment, first)?;
-    let sums = sums_after(alloc, sums, segment, order, near, size)?;
+    let space = space_after(alloc, segment, first)?;
+    let sums = sums_after(sums, segment, order, met, size);
     let left = after.tail.copy(alloc)?;
     let Past { space: end, tail } = after;
     let came = Progress {
@@ -233,10 +215,11 @@ pub(crate) fn counts_of(came: &Progress) -> Result<ChainCounts, Memory>
     ensures { IfOk result (λ counts. counts ≡ counts_seen (state_of came.now)) }
 {
     let sums = came.sums;
+    let met = sums.totals.met;
     let pages = came.space.pages()?;
     Ok(ChainCounts {
         segments: sums.segments,
-        calls: sums.calls,
+        calls: sums.totals.calls,
         updates: sums.updates,
         reads: sums.reads,
         touches: sums.touches,
@@ -244,7 +227,11 @@ pub(crate) fn counts_of(came: &Progress) -> Result<ChainCounts, Memory>
         dumps: sums.dumps,
         replicas: came.layout.replicas(),
         pages: pages.len() as u64,
-        overlapping: sums.overlapping,
-        beside: sums.beside,
+        overlapping: met.overlapping,
+        beside: met.beside,
+        since_open: met.since_open,
+        since_kept: met.since_kept,
+        since_lagging: met.since_lagging,
+        repeated: met.repeated,
     })
 }

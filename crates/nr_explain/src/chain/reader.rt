@@ -1,6 +1,6 @@
 //! A chain that comes in pieces: each segment is judged as soon as it is whole, and the first wrong one explained.
 
-ghost use Rattle.std.specs.Prelude.{◌≡◌, ◌++◌, [], ℕ, List, IfOk, IfSome, None, Option, Some};
+ghost use Rattle.std.specs.Prelude.{◌≡◌, ◌++◌, [], ℕ, is_some, true, List, IfOk, IfSome, None, Option, Some};
 ghost use Rattle.nr_trace.specs.Feed.{IsWhole};
 ghost use Rattle.nr_trace.specs.Feed.Fed.{Taken};
 ghost use Rattle.nr_trace.specs.FirstFault.{HasFaultAs};
@@ -15,7 +15,7 @@ use crate::chain::explaining::explain_segment;
 use crate::chain::explanation::ChainExplanation;
 use crate::chain::progress::{Progress, go_on, sums_of};
 use crate::chain::refusing::{ended, refused};
-use nr_audit::{Past, judge_segment};
+use nr_audit::{Met, Past, judge_segment};
 use nr_trace::{SegmentFeed, Trace};
 use std::alloc::Global;
 use std::marker::Model;
@@ -199,6 +199,17 @@ fn judge_whole(
     judge_next(alloc, last, before, &segment, bytes.len(), count)
 }
 
+/// What is counted of a segment, where that was asked.
+fn counted(met: Option<Met>) -> Met
+    requires { is_some met ≡ true }
+    ensures { met ≡ Some result }
+{
+    match met {
+        Some(met) => met,
+        None => unreachable!(),
+    }
+}
+
 /// Judges the segment that comes next, which has so many bytes, and explains it where it is wrong.
 fn judge_next(
     alloc: Global,
@@ -215,9 +226,10 @@ fn judge_next(
     ensures { (came : Option ChainState) → IsSeenOf came (all_states last)
         → IfOk result (JudgedTo came segment.now size count) }
 {
-    match judge_segment(alloc, segment, before) {
-        Ok((order, past)) => {
-            let (came, kept) = go_on(alloc, last, segment, &order, past, size)?;
+    match judge_segment(alloc, segment, before, true) {
+        Ok((order, past, met)) => {
+            let met = counted(met);
+            let (came, kept) = go_on(alloc, last, segment, &order, met, past, size)?;
             let feed = SegmentFeed::new(alloc, Some(came.layout));
             let next = ChainReader {
                 alloc,

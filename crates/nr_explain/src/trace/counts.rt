@@ -6,8 +6,7 @@ ghost use Rattle.nr_explain.specs.Counts.{IsCountOf};
 
 use crate::calls::places::places;
 use crate::search::spaces::space_at;
-use crate::trace::meetings::overlapping;
-use nr_audit::Order;
+use nr_audit::{Order, overlapping};
 use nr_trace::Trace;
 use std::alloc::Global;
 use vs_types::Memory;

@@ -1,5 +1,5 @@
 -- How addresses look in a recording that two make, and which touches of the second are right in it.
-use Rattle.std.proofs.Common.{◌≡◌, ◌≢◌, ◌↔◌, ℕ, suc, ◌+◌, ◌<◌, ◌≤◌, ◌⊎◌, inl, inr, List, ◌∷◌, ◌++◌, length, take, Option}
+use Rattle.std.proofs.Common.{◌≡◌, ◌≢◌, ◌↔◌, ℕ, suc, ◌+◌, ◌<◌, ◌≤◌, ◌⊎◌, inl, inr, List, ◌∷◌, ◌++◌, length, take, Option, None}
 use Rattle.std.proofs.Common.{refl, ap, sym, ◌∙◌, subst, arith}
 use Rattle.std.proofs.Math.Seq.{take-length}
 use Rattle.std.proofs.lemmas.Bool.{cases_lt}
@@ -22,8 +22,12 @@ use Rattle.nr_joined.proofs.Parts.{answered_left, answered_right, answers_to_lef
 use Rattle.nr_joined.proofs.Places.{placed_in, placed_in_right, placed_left, placed_right}
 use Rattle.nr_touch.specs.inside.Earlier.{EndsNowhere}
 use Rattle.nr_touch.specs.Tails.{AreOpenFrom, IsNeverAnswered, Lingers}
-use Rattle.nr_touch.specs.Touches.{page_after, touch_behind, ChangesLook, Ends, EndsLook, IsAllowedPrefix, IsAnsweredBefore, IsAnsweredInTime}
+use Rattle.nr_touch.specs.Touches.{page_after, touch_behind, ChangesLook, Ends, EndsLook, IsAllowedPrefix, IsAnsweredAt, IsAnsweredBefore, IsAnsweredInTime}
 use Rattle.nr_touch.specs.Touches.{IsFaultOfLagging, IsMadeAfter, IsRightTouch}
+use Rattle.nr_touch.specs.Excuses.{IsAnsweredAsNow, IsAnsweredUpToDate, IsExcusedBy, IsNewestPrefix, IsUpToDate}
+use Rattle.nr_touch.specs.inside.Excused.{IsExcusedWith}
+use Rattle.nr_touch.specs.declared.touches.excuse.Excuse.{Excuse}
+use Rattle.nr_touch.specs.declared.touches.excuse.Excuse.TheVariants as excuses
 use Rattle.nr_touch.specs.declared.touches.touch.Touch.{Touch}
 use Rattle.nr_touch.proofs.NextChanges.{next_change, NextChange}
 use Rattle.nr_touch.proofs.cuts.Ended.{change_within, ends_changes}
@@ -363,7 +367,7 @@ module _ (start : Space) (first second : Recording) (same_layout : second.layout
 
     -- ---- faults by a table that lags
 
-    lagging_rest : IsFaultOfLagging between second touch → IsFaultOfLagging start whole behind
+    pub lagging_rest : IsFaultOfLagging between second touch → IsFaultOfLagging start whole behind
     lagging_rest (fault, m, it) = (
       fault,
       length first.log + m,
@@ -375,7 +379,7 @@ module _ (start : Space) (first second : Recording) (same_layout : second.layout
       },
     )
 
-    lagging_parts : IsFaultOfLagging start whole behind → IsFaultOfLagging between second touch
+    pub lagging_parts : IsFaultOfLagging start whole behind → IsFaultOfLagging between second touch
     lagging_parts (fault, m, it) = elim (split_at (length first.log) m) [
       | inl l ↦ absurd (let known = it.known in omega (arith, known, l))
       | inr (k, e) ↦ (
@@ -390,6 +394,108 @@ module _ (start : Space) (first second : Recording) (same_layout : second.layout
         },
       )
     ]
+
+    -- ---- the newest entries, and those that have each answered change
+
+    newest_rest : (n : ℕ) → IsNewestPrefix between second touch n ↔ IsNewestPrefix start whole behind (length first.log + n)
+    newest_rest n = (
+      λ is. record {
+        within = let l = is.within in omega (arith, l, many_places first second);
+        not_foreseen = (foresees_rest touch.address touch.answered n).0 is.not_foreseen;
+        most = elim is.most [
+          | inl all ↦ inl (omega (arith, all, many_places first second))
+          | inr (looks, (call, placed, late)) ↦ inr (
+            (changes_rest touch.address n).1 looks,
+            (length first.events + call, placed_right first second n call placed, omega (arith, late)),
+          )
+        ];
+      },
+      λ is. record {
+        within = let l = is.within in omega (arith, l, many_places first second);
+        not_foreseen = (foresees_rest touch.address touch.answered n).1 is.not_foreseen;
+        most = elim is.most [
+          | inl all ↦ inl (omega (arith, all, many_places first second))
+          | inr (looks, late) ↦
+              let (k, e, own) = made_rest touch.answered (length first.log + n) late in
+              inr (
+                (changes_rest touch.address n).0 looks,
+                subst (λ (place : ℕ). IsMadeAfter second place touch.answered) (let it : k ≡ n = omega (arith, e) in it) own,
+              )
+        ];
+      },
+    )
+
+    newest_in_rest : (n : ℕ) → IsNewestPrefix start whole behind n → length first.log ≤ n
+    newest_in_rest n is = elim is.most [
+      | inl all ↦ omega (arith, all, many_places first second)
+      | inr (looks, late) ↦ let (k, e, own) = made_rest touch.answered n late in omega (arith, e)
+    ]
+
+    -- the touch is answered as after entries of the whole, this many, where it is as after those of the second run alone
+    answered_in_rest : (n : ℕ) → IsAnsweredAt between second touch n ↔ IsAnsweredAt start whole behind (length first.log + n)
+    answered_in_rest n = (
+      λ answered. answered ∙ ap (allow_in_page touch.address touch.mode touch.access) (sym (look_rest touch.address n)),
+      λ answered. answered ∙ ap (allow_in_page touch.address touch.mode touch.access) (look_rest touch.address n),
+    )
+
+    pub as_now_rest : IsAnsweredAsNow between second touch ↔ IsAnsweredAsNow start whole behind
+    as_now_rest = (
+      λ (n, newest, is, answered).
+          (length first.log + n, (newest_rest n).0 newest, (allowed_rest n).0 is, (answered_in_rest n).0 answered),
+      λ (n, newest, is, answered). elim (split_at (length first.log) n) [
+        | inl l ↦ absurd (let low = newest_in_rest n newest in omega (arith, low, l))
+        | inr (k, e) ↦ (
+          k,
+          (newest_rest k).1 (subst (IsNewestPrefix start whole behind) e newest),
+          (allowed_rest k).1 (subst (IsAllowedPrefix start whole behind) e is),
+          (answered_in_rest k).1 (subst (IsAnsweredAt start whole behind) e answered),
+        )
+      ],
+    )
+
+    up_to_date_at : (n : ℕ) → IsUpToDate 0 between second touch n ↔ IsUpToDate (length first.log) start whole behind (length first.log + n)
+    up_to_date_at n = (
+      λ is. record {
+        within = let l = is.within in omega (arith, l, many_places first second);
+        has_earlier = omega arith;
+        has_answered = (below_rest touch.address None touch.made n).0 is.has_answered;
+        not_foreseen = (foresees_rest touch.address touch.answered n).0 is.not_foreseen;
+      },
+      λ is. record {
+        within = let l = is.within in omega (arith, l, many_places first second);
+        has_earlier = omega arith;
+        has_answered = (below_rest touch.address None touch.made n).1 is.has_answered;
+        not_foreseen = (foresees_rest touch.address touch.answered n).1 is.not_foreseen;
+      },
+    )
+
+    pub up_to_date_rest : IsAnsweredUpToDate 0 between second touch ↔ IsAnsweredUpToDate (length first.log) start whole behind
+    up_to_date_rest = (
+      λ (n, is, answered). (length first.log + n, (up_to_date_at n).0 is, (answered_in_rest n).0 answered),
+      λ (n, is, answered). elim (split_at (length first.log) n) [
+        | inl l ↦ absurd (let low = is.has_earlier in omega (arith, low, l))
+        | inr (k, e) ↦ (
+          k,
+          (up_to_date_at k).1 (subst (IsUpToDate (length first.log) start whole behind) e is),
+          (answered_in_rest k).1 (subst (IsAnsweredAt start whole behind) e answered),
+        )
+      ],
+    )
+
+    -- ---- what excuses a touch
+
+    in_time_both : IsAnsweredInTime between second touch ⊎ IsOfEarlier → IsAnsweredInTime start whole behind
+    in_time_both (inl own) = in_time_rest own
+    in_time_both (inr before) = right_of_earlier before
+
+    pub excused_both : (excuse : Excuse) → IsExcusedWith IsOfEarlier between second touch excuse
+        → IsExcusedBy (length first.log) start whole behind excuse
+    excused_both excuses.None now = as_now_rest.0 now
+    excused_both excuses.Open (in_time, not_now, seen) =
+        (in_time_both in_time, (λ now. not_now (as_now_rest.1 now)), (λ fault. up_to_date_rest.0 (seen fault)))
+    excused_both excuses.Kept (in_time, not_now, (fault, kept)) =
+        (in_time_both in_time, (λ now. not_now (as_now_rest.1 now)), fault, (λ up_to_date. kept (up_to_date_rest.1 up_to_date)))
+    excused_both excuses.Lagging (lagging, late) = (lagging_rest lagging, (λ in_time. late (in_time_parts in_time)))
 
     -- ---- right touches
 

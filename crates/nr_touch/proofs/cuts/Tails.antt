@@ -14,10 +14,10 @@ use Rattle.nr_trace.specs.Orders.{space_from}
 use Rattle.nr_joined.specs.Run.{Run, run_with, IsOrderly}
 use Rattle.nr_joined.proofs.Orderly.{orderly_both, space_of_both}
 use Rattle.nr_touch.specs.Tails.{GoesOn, HasIndexes, IsLeft, IsNeverAnswered, IsTailOf, Lingers}
-use Rattle.nr_touch.specs.Touches.{page_after, ChangesLook, EndsLook, IsAnsweredInTime, IsFaultOfLagging, IsRightBehind, IsRightTouch}
+use Rattle.nr_touch.specs.Touches.{page_after, ChangesLook, EndsLook, IsRightBehind, IsRightTouch}
 use Rattle.nr_touch.specs.inside.Changes.{ended_at, page_before, AreChanges}
 use Rattle.nr_touch.specs.inside.Columns.{Covers, IsNumbered, IsPast}
-use Rattle.nr_touch.specs.inside.Earlier.{AreOfRun, EndsNowhere, IsAnsweredSo, IsLeftAt}
+use Rattle.nr_touch.specs.inside.Earlier.{AreOfRun, IsAnsweredSo, IsOfLeft}
 use Rattle.nr_touch.specs.inside.Indexed.{HasPages}
 use Rattle.nr_touch.specs.inside.Lefts.{left_of, ArePlacedAs, KeepLooks}
 use Rattle.nr_touch.specs.inside.Listed.{AreListed}
@@ -26,9 +26,13 @@ use Rattle.nr_touch.specs.declared.changes.change.PlacedChange.{PlacedChange}
 use Rattle.nr_touch.specs.declared.releases.lingering.Indexes.{Indexes}
 use Rattle.nr_touch.specs.declared.touches.tail.Left.{Left}
 use Rattle.nr_touch.specs.declared.touches.tail.Tail.{Tail}
+use Rattle.nr_touch.specs.Excuses.{IsExcusedBehind, IsExcusedBy}
+use Rattle.nr_touch.specs.inside.Excused.{IsExcusedWith}
+use Rattle.nr_touch.specs.declared.touches.excuse.Excuse.{Excuse}
+use Rattle.nr_touch.specs.declared.touches.excuse.Excuse.TheVariants as excuses
 use Rattle.nr_touch.specs.declared.touches.touch.Touch.{Touch}
 use Rattle.nr_touch.proofs.Sighted.{contains_map}
-use Rattle.nr_touch.proofs.cuts.Behind.{lingers_both, lingers_to_both, right_both, right_parts}
+use Rattle.nr_touch.proofs.cuts.Behind.{excused_both, lingers_both, lingers_to_both, right_both, right_parts}
 use Rattle.nr_touch.proofs.cuts.Ended.{change_within, ends_past, past_ends}
 use Rattle.nr_touch.proofs.cuts.Lefts.{left_both, left_parts}
 use Rattle.nr_touch.proofs.cuts.Placed.{left_lingers, left_sorted, no_end, AreRising}
@@ -154,12 +158,6 @@ of_run (Some run) tail placed sorted of_it are same = (
 
 -- ---- touches behind a run
 
--- a touch is answered as its address is left to look, and no answer of the segment before it ends this
-abbrev pub IsOfLeft : Space → Recording → List PlacedChange → Touch → Type 0
-IsOfLeft start segment earlier touch =
-    (page : Option Page) × EndsNowhere start segment touch.address page touch.made × IsLeftAt earlier touch.address page
-    × (touch.answer ≡ allow_in_page touch.address touch.mode touch.access page)
-
 module _ (start : Space) (segment : Recording) (earlier : List PlacedChange) (touch : Touch) where
   -- a right touch behind a run is right in its segment, or is answered by what was left
   pub parts_behind : (before : Option Run) → GoesOn before segment start → AreOfRun before earlier
@@ -181,10 +179,38 @@ module _ (start : Space) (segment : Recording) (earlier : List PlacedChange) (to
         ]),
   )
 
-  -- a touch that is right in its segment is right behind a run
-  pub own_right : (before : Option Run) → GoesOn before segment start → AreOfRun before earlier → IsRightTouch start segment touch
-      → IsRightBehind before start segment touch
-  own_right before goes_on of_it right = (parts_behind before goes_on of_it).1 (inl right)
+  -- what excuses a touch, by what was left or by what lingers
+  excused_as : (Before Other : Type 0) → (Before → Other) → (Other → Before) → (begun : Space) (excuse : Excuse)
+      → IsExcusedWith Before begun segment touch excuse → IsExcusedWith Other begun segment touch excuse
+  excused_as Before Other there back begun excuses.None now = now
+  excused_as Before Other there back begun excuses.Open (in_time, not_now, more) =
+      (elim in_time [ inl own ↦ inl own | inr left ↦ inr (there left) ], not_now, more)
+  excused_as Before Other there back begun excuses.Kept (in_time, not_now, more) =
+      (elim in_time [ inl own ↦ inl own | inr left ↦ inr (there left) ], not_now, more)
+  excused_as Before Other there back begun excuses.Lagging (lagging, late) =
+      (lagging, (λ in_time. late (elim in_time [ inl own ↦ inl own | inr other ↦ inr (back other) ])))
+
+  -- behind no run nothing was left
+  excused_alone : (Before : Type 0) → (Before → ⊥) → (excuse : Excuse) → IsExcusedWith Before start segment touch excuse
+      → IsExcusedBy 0 start segment touch excuse
+  excused_alone Before none excuses.None now = now
+  excused_alone Before none excuses.Open (in_time, not_now, more) = (elim in_time [ inl own ↦ own | inr left ↦ absurd (none left) ], not_now, more)
+  excused_alone Before none excuses.Kept (in_time, not_now, more) =
+      (elim in_time [ inl own ↦ own | inr left ↦ absurd (none left) ], not_now, more.0, more.1)
+  excused_alone Before none excuses.Lagging (lagging, late) = (lagging, (λ in_time. late (inl in_time)))
+
+  pub excused_behind : (before : Option Run) → GoesOn before segment start → AreOfRun before earlier → (excuse : Excuse)
+      → IsExcusedWith (IsOfLeft start segment earlier touch) start segment touch excuse → IsExcusedBehind before start segment touch excuse
+  excused_behind None goes_on none excuse is =
+      excused_alone (IsOfLeft start segment earlier touch) (λ left. let at = left.2 in none at.change at.has) excuse is
+  excused_behind (Some run) (ends, same_layout) (orderly, left) excuse is =
+      let begun = space_from run.start run.trace run.trace.log in
+      let own : IsExcusedWith (IsOfLeft begun segment earlier touch) begun segment touch excuse =
+      subst (λ (s : Space). IsExcusedWith (IsOfLeft s segment earlier touch) s segment touch excuse) ends is in
+      excused_both run.start run.trace segment same_layout orderly touch excuse
+      (excused_as (IsOfLeft begun segment earlier touch) _
+      (λ (page, none, at, answered). (page, none, (left touch.address page).0 at, answered))
+      (λ (page, none, it, answered). (page, none, (left touch.address page).1 it, answered)) begun excuse own)
 
 -- ---- by the searches of a touch that finds a page, or none
 
@@ -199,30 +225,25 @@ module _ (touch : Touch) (finds : Bool)
       subst (λ b. IsPast changes (λ c. Covers touch.address c × (ended_at b c < event)) first) (told page answered) past
 
   module _ (start : Space) (segment : Recording) (own earlier : List PlacedChange) (are : AreChanges start segment own) (fits : touch.made < 2 ^ 32)
-      (first : ℕ) (past : IsPast own (λ c. Covers touch.address c × (ended_at finds c < touch.made)) first)
-      (before : Option Run) (goes_on : GoesOn before segment start) (of_it : AreOfRun before earlier) where
-    pub right_behind : (IsAnsweredInTime start segment touch → ⊥) → (IsFaultOfLagging start segment touch → ⊥) → IsRightBehind before start segment touch
-        → (first ≡ 0) × IsAnsweredSo earlier touch
-    right_behind late known right = elim ((parts_behind start segment earlier touch before goes_on of_it).0 right) [
-      | inl (inl in_time) ↦ absurd (late in_time)
-      | inl (inr lagging) ↦ absurd (known lagging)
-      | inr (page, none, at, answered) ↦ (
+      (first : ℕ) (past : IsPast own (λ c. Covers touch.address c × (ended_at finds c < touch.made)) first) where
+    -- what was left answers the touch where its own segment ends nothing
+    pub of_left : ((first ≡ 0) × IsAnsweredSo earlier touch) ↔ IsOfLeft start segment earlier touch
+    of_left = (
+      λ (zero_so, (page, at, answered)). (
+        page,
+        (λ place ends early.
+            let less = ends_past start segment touch.address touch.made fits own are page first (past_of own touch.made first past page answered)
+            place ends early in
+            omega (arith, less, zero_so)),
+        at,
+        answered,
+      ),
+      λ (page, none, at, answered). (
         (let low = past_ends start segment touch.address touch.made fits own are page first (past_of own touch.made first past page answered) 0
             (λ place ends early. absurd (none place ends early)) in omega (arith, low)),
         (page, at, answered),
-      )
-    ]
-
-    pub behind_right : first ≡ 0 → IsAnsweredSo earlier touch → IsRightBehind before start segment touch
-    behind_right zero_so (page, at, answered) = (parts_behind start segment earlier touch before goes_on of_it).1 (inr (
-      page,
-      (λ place ends early.
-          let less = ends_past start segment touch.address touch.made fits own are page first (past_of own touch.made first past page answered)
-          place ends early in
-          omega (arith, less, zero_so)),
-      at,
-      answered,
-    ))
+      ),
+    )
 
   module _ (changes : List PlacedChange) (first : ℕ) (past : IsPast changes (λ c. Covers touch.address c × (ended_at finds c < 4294967295)) first) where
     pub between_so : IsAnsweredBetween changes (Covers touch.address) touch first 4294967295 → IsAnsweredSo changes touch

@@ -32,6 +32,12 @@ abbrev pub IsAnsweredSo : List PlacedChange → Touch → Type 0
 IsAnsweredSo changes touch =
     (page : Option Page) × IsLeftAt changes touch.address page × (touch.answer ≡ allow_in_page touch.address touch.mode touch.access page)
 
+-- the touch is answered as its address is left to look, and no answer of the segment before it ends this
+abbrev pub IsOfLeft : Space → Recording → List PlacedChange → Touch → Type 0
+IsOfLeft start segment earlier touch =
+    (page : Option Page) × EndsNowhere start segment touch.address page touch.made × IsLeftAt earlier touch.address page
+    × (touch.answer ≡ allow_in_page touch.address touch.mode touch.access page)
+
 -- the changes leave just the looks that linger behind a run
 abbrev pub AreOfRun : Option Run → List PlacedChange → Type 0
 AreOfRun None changes = (c : PlacedChange) → Contains changes c → ⊥

@@ -156,3 +156,21 @@ pub(crate) fn replay(
     }
     Ok((changes, space))
 }
+
+/// The space after the whole log of a segment that begins with this one. What the log has that is no update changes nothing. Allocates a table
+/// of four bytes for each event, the changes that the updates make, and the pages that the log maps.
+///
+/// # Errors
+///
+/// `Memory` where a growth of memory was refused.
+pub fn space_after(alloc: Global, segment: &Trace, start: PlainSpace) -> Result<PlainSpace, Memory>
+    requires depth { start.depth ≡ segment.now.layout.depth }
+    requires limit { start.limit ≡ segment.now.layout.tables }
+    ensures space { HasCleanLog segment.now → IfOk result
+        (λ end. end.space ≡ space_from start.space segment.now segment.now.log) }
+    ensures depth { IfOk result (λ end. end.depth ≡ start.depth) }
+    ensures limit { IfOk result (λ end. end.limit ≡ start.limit) }
+{
+    let (_, space) = replay(alloc, segment, start)?;
+    Ok(space)
+}

@@ -75,7 +75,7 @@ impl Lingering {
         Ok(())
     }
 
-    /// Lists the pages that these changes leave. Allocates 32 bytes and four rows of 16 bytes for each.
+    /// Lists the pages that these changes leave. Allocates 24 bytes and four rows of 16 bytes for each.
     fn note_all(&mut self, lefts: &[Left]) -> Result<(), Memory>
         requires { (left : LeftRow) → Contains lefts.now left → IsSoundLeft left }
         ensures room { OnOk result (HasRoom self.old → HasRoom self.new) }

@@ -16,7 +16,7 @@ ghost use Rattle.nr_touch.specs.inside.Overs.{IsSettled};
 
 use crate::changes::history::History;
 use crate::releases::release::Release;
-use crate::touches::stale::is_right_behind;
+use crate::touches::excuse::is_right_behind;
 use crate::touches::touch::Touch;
 use vs_plain::PlainSpace;
 use vs_plain::laws::pages_are_a_space;

@@ -1,9 +1,8 @@
 //! How many touches of a segment were open while an update of it was that changes how their address looks.
 
-ghost use Rattle.std.specs.Prelude.{◌≡◌, ◌↔◌, ◌<◌, ◌^◌, length, map, List, Contains, IfOk, IsTrue};
+ghost use Rattle.std.specs.Prelude.{◌≡◌, ◌↔◌, ◌<◌, ◌^◌, length, map, is_some, List, Contains, IfOk, IfSome, IsTrue};
 ghost use Rattle.vs_types.specs.Space.{Space};
 ghost use Rattle.nr_trace.specs.Laws.{HasCleanLog};
-ghost use Rattle.nr_trace.specs.Orders.{space_from};
 ghost use Rattle.nr_touch.specs.Beside.{beside, is_beside, touched};
 ghost use Rattle.nr_touch.specs.declared.changes.change.PlacedChange.{PlacedChange};
 ghost use Rattle.nr_touch.specs.Replies.{AreReplies};
@@ -13,11 +12,10 @@ ghost use Rattle.nr_touch.specs.inside.Lives.{opening_of, AreLives, AreOpenings,
 
 use crate::changes::change::PlacedChange;
 use crate::changes::history::number_at;
-use crate::changes::replay::{replay, replies};
+use crate::changes::replay::replies;
 use crate::releases::lives::{Life, Lives};
 use nr_trace::{Event, Trace};
 use std::alloc::Global;
-use vs_plain::PlainSpace;
 use vs_types::{Memory, Size};
 
 /// From when on and until when an update is open.
@@ -101,32 +99,15 @@ fn is_beside(trace: &Trace, replies: &[u32], updates: &Lives, call: u32) -> bool
     is_open_within(updates, address, call, answered)
 }
 
-/// How many touches of a segment that begins with this space were open while an update of it was that changes how their address looks;
-/// and the space after it. A touch that isn't answered is none of them; an update that isn't answered is open up to the end.
-///
-/// Allocates a table of four bytes for each event, the changes that the updates make, and 48 bytes more for each of these; and the pages
-/// that the log maps.
-///
-/// # Errors
-///
-/// `Memory` where a growth of memory was refused.
-pub fn touches_beside(
-    alloc: Global,
-    segment: &Trace,
-    start: PlainSpace,
-) -> Result<(u64, PlainSpace), Memory>
-    requires depth { start.depth ≡ segment.now.layout.depth }
-    requires limit { start.limit ≡ segment.now.layout.tables }
-    requires clean { HasCleanLog segment.now }
-    ensures count { IfOk result (λ found. found.0 ≡ beside start.space segment.now) }
-    ensures space { IfOk result (λ found. found.1.space
-        ≡ space_from start.space segment.now segment.now.log) }
-    ensures depth { IfOk result (λ found. found.1.depth ≡ start.depth) }
-    ensures limit { IfOk result (λ found. found.1.limit ≡ start.limit) }
+/// How many touches of a segment were open while an update of it was that makes one of these changes at their address. Allocates a table of
+/// four bytes for each event, and 48 bytes for each change.
+fn count_beside(alloc: Global, segment: &Trace, changes: &[PlacedChange]) -> Result<u64, Memory>
+    requires { (c : PlacedChange) → Contains changes.now c → IsNumbered c }
+    ensures { (start : Space) → HasCleanLog segment.now → AreChanges start segment.now changes.now
+        → IfOk result (λ count. count ≡ beside start segment.now) }
 {
     let replies = replies(alloc, segment)?;
-    let (changes, space) = replay(alloc, segment, start)?;
-    let updates = openings(alloc, &changes)?;
+    let updates = openings(alloc, changes)?;
     let events = segment.events().len() as u32;
     let mut count: u64 = 0;
     for call in 0..events {
@@ -134,5 +115,25 @@ pub fn touches_beside(
             count += 1;
         }
     }
-    Ok((count, space))
+    Ok(count)
+}
+
+/// The same, if it is asked.
+pub(crate) fn beside_if(
+    counts: bool,
+    alloc: Global,
+    segment: &Trace,
+    changes: &[PlacedChange],
+) -> Result<Option<u64>, Memory>
+    requires { (c : PlacedChange) → Contains changes.now c → IsNumbered c }
+    ensures count { (start : Space) → HasCleanLog segment.now
+        → AreChanges start segment.now changes.now
+        → IfOk result (λ found. IfSome found (λ count. count ≡ beside start segment.now)) }
+    ensures counted { IfOk result (λ found. is_some found ≡ counts) }
+{
+    if !counts {
+        return Ok(None);
+    }
+    let count = count_beside(alloc, segment, changes)?;
+    Ok(Some(count))
 }

@@ -1,6 +1,6 @@
-//! The search for the first touch that is stale.
+//! Whether a touch is answered as its address was, and what the touches and releases of a segment behind others come to.
 
-ghost use Rattle.std.specs.Prelude.{◌≡◌, ◌↔◌, ◌<◌, ◌≤◌, ◌++◌, List, Contains, is_some, length, map, IfOk, IfSome, IsSomeAnd, IsTrue, Option, Some};
+ghost use Rattle.std.specs.Prelude.{◌≡◌, ◌↔◌, ◌<◌, ◌≤◌, ◌++◌, List, Contains, is_some, length, map, IfNone, IfOk, IfSome, IsSomeAnd, IsTrue, Option, Some};
 ghost use Rattle.vs_types.specs.Space.{Space, page_at};
 ghost use Rattle.vs_types.specs.Step.{look, allow, allow_in_page};
 ghost use Rattle.nr_trace.specs.Laws.{HasCleanLog};
@@ -9,13 +9,14 @@ ghost use Rattle.nr_trace.specs.Recording.{Recording};
 ghost use Rattle.nr_joined.specs.Run.{Run, run_with};
 ghost use Rattle.nr_touch.specs.Touches.{IsAnsweredInTime, IsFaultOfLagging, IsFaultOfNone};
 ghost use Rattle.vs_types.specs.declared.page.Page.{Page as PageRow};
-ghost use Rattle.nr_touch.specs.Touches.{IsRightBehind};
+ghost use Rattle.nr_touch.specs.Beside.{beside};
+ghost use Rattle.nr_touch.specs.Excuses.{AreExcusedBy};
 ghost use Rattle.nr_touch.specs.Releases.{AreMemory, FindsReachable};
 ghost use Rattle.nr_touch.specs.Stale.{FindsStale};
 ghost use Rattle.nr_touch.specs.Tails.{GoesOn, IsSoundTail, IsTailOf};
 ghost use Rattle.nr_touch.specs.inside.Changes.{AreChanges};
 ghost use Rattle.nr_touch.specs.inside.Columns.{AreColumns, Covers, IsNumbered};
-ghost use Rattle.nr_touch.specs.inside.Earlier.{IsAnsweredSo, IsFollowed};
+ghost use Rattle.nr_touch.specs.inside.Earlier.{IsAnsweredSo};
 ghost use Rattle.nr_touch.specs.inside.Walk.{shown, IsAnsweredWithin};
 ghost use Rattle.nr_touch.specs.declared.changes.change.PlacedChange.{PlacedChange as PlacedRow};
 ghost use Rattle.nr_touch.specs.inside.Levels.{left_in, IsLadder};
@@ -27,7 +28,9 @@ use crate::changes::undo::undo_all;
 use crate::releases::lingering::indexes_after;
 use crate::releases::reaching::first_reachable;
 use crate::releases::release::Release;
+use crate::touches::beside::beside_if;
 use crate::touches::between::is_answered_between;
+use crate::touches::excuse::{Excuse, excuses_of};
 use crate::touches::tail::{Tail, left_after, lefts_of};
 use crate::touches::touch::Touch;
 use nr_trace::Trace;
@@ -42,7 +45,7 @@ fn is_same(recorded: Answer, given: Answer) -> bool
 }
 
 /// How an address looks before its next change, or else after the whole log.
-fn look_until(next: Option<PlacedChange>, space: &PlainSpace, address: u64) -> Answer
+pub(crate) fn look_until(next: Option<PlacedChange>, space: &PlainSpace, address: u64) -> Answer
     requires numbered { IfSome next IsNumbered }
     requires covers { IfSome next (Covers address) }
     ensures { (now : Space) → page_at now address ≡ shown next space.now.space address
@@ -55,7 +58,7 @@ fn look_until(next: Option<PlacedChange>, space: &PlainSpace, address: u64) -> A
 }
 
 /// Whether an address that looks so answers the touch as it was answered.
-fn answers(seen: Answer, touch: &Touch) -> bool
+pub(crate) fn answers(seen: Answer, touch: &Touch) -> bool
     ensures { (now : Space) → seen ≡ look now touch.now.address
         → IsTrue result
         ↔ (touch.now.answer ≡ allow now touch.now.address touch.now.mode touch.now.access) }
@@ -76,7 +79,7 @@ fn lies_before(change: Option<PlacedChange>, place: u32) -> bool
 /// Whether the touch is answered as its address was after some entries: the first number of them, the last, or some number between.
 /// At most six searches by halving in the changes of the three pages that may have the address; and where neither end is right and a
 /// change lies between, at most 24 in how pages looked before changes.
-fn is_answered_within(
+pub(crate) fn is_answered_within(
     history: &History,
     space: &PlainSpace,
     touch: &Touch,
@@ -112,7 +115,7 @@ fn is_fault_of_none(touch: &Touch) -> bool
 }
 
 /// Whether the touch finds a page, if it is answered as any space answers.
-fn finds_page(touch: &Touch) -> bool
+pub(crate) fn finds_page(touch: &Touch) -> bool
     ensures { (page : Option PageRow) → touch.now.answer
         ≡ allow_in_page touch.now.address touch.now.mode touch.now.access page
         → result ≡ is_some page }
@@ -121,7 +124,7 @@ fn finds_page(touch: &Touch) -> bool
 }
 
 /// Whether the touch is answered as its address was after some entries that are allowed.
-fn is_in_time(history: &History, space: &PlainSpace, places: u32, touch: &Touch) -> bool
+pub(crate) fn is_in_time(history: &History, space: &PlainSpace, places: u32, touch: &Touch) -> bool
     requires { AreColumns history.now }
     ensures { (start : Space) (trace : Recording) → AreChanges start trace history.now.changes.items
         → space.now.space ≡ space_from start trace trace.log → places ≡ length trace.log
@@ -136,7 +139,12 @@ fn is_in_time(history: &History, space: &PlainSpace, places: u32, touch: &Touch)
 }
 
 /// Whether the touch faults by a table that lags: one that has no page at the address yet.
-fn is_of_lagging(history: &History, space: &PlainSpace, places: u32, touch: &Touch) -> bool
+pub(crate) fn is_of_lagging(
+    history: &History,
+    space: &PlainSpace,
+    places: u32,
+    touch: &Touch,
+) -> bool
     requires { AreColumns history.now }
     ensures { (start : Space) (trace : Recording) → AreChanges start trace history.now.changes.items
         → space.now.space ≡ space_from start trace trace.log → places ≡ length trace.log
@@ -178,7 +186,7 @@ fn is_answered_with(level: &History, touch: &Touch, finds: bool, before: bool) -
 /// Whether the touch is answered as its address may still be found to look behind the segments before: as before a change of it,
 /// where neither that one nor a later one of it ends this. At most three searches by halving in each level, and 24 in how pages looked
 /// before changes.
-fn is_of_earlier(earlier: &[History], touch: &Touch) -> bool
+pub(crate) fn is_of_earlier(earlier: &[History], touch: &Touch) -> bool
     requires { IsLadder earlier.now }
     ensures { IsTrue result ↔ IsAnsweredSo (left_in earlier.now) touch.now }
 {
@@ -188,59 +196,6 @@ fn is_of_earlier(earlier: &[History], touch: &Touch) -> bool
         found = is_answered_with(level, touch, finds, found);
     }
     found
-}
-
-/// Whether the touch is right: of its segment, or behind the segments before, where no update of its own that ends how the touch finds its
-/// address was answered before it was made.
-pub(crate) fn is_right_behind(
-    history: &History,
-    earlier: &[History],
-    space: &PlainSpace,
-    places: u32,
-    touch: &Touch,
-) -> bool
-    requires own { AreColumns history.now }
-    requires earlier { IsLadder earlier.now }
-    ensures { (before : Option Run) (start : Space) (segment : Recording)
-        → IsFollowed before start segment history.now earlier.now
-        → space.now.space ≡ space_from start segment segment.log → places ≡ length segment.log
-        → IsTrue result ↔ IsRightBehind before start segment touch.now }
-{
-    if is_in_time(history, space, places, touch) {
-        return true;
-    }
-    if is_of_lagging(history, space, places, touch) {
-        return true;
-    }
-    let flushed = history.first_allowed(touch.address, touch.made, finds_page(touch));
-    if flushed == 0 {
-        return is_of_earlier(earlier, touch);
-    }
-    false
-}
-
-/// The index of the first touch that isn't answered as its address was at a moment that is allowed, or `None`.
-fn first_of(
-    history: &History,
-    earlier: &[History],
-    space: &PlainSpace,
-    places: u32,
-    touches: &[Touch],
-) -> Option<usize>
-    requires own { AreColumns history.now }
-    requires earlier { IsLadder earlier.now }
-    ensures finds { (before : Option Run) (start : Space) (segment : Recording)
-        → IsFollowed before start segment history.now earlier.now
-        → space.now.space ≡ space_from start segment segment.log → places ≡ length segment.log
-        → FindsStale before start segment touches.now result }
-    ensures within { IfSome result (λ index. index < length touches.now) }
-{
-    for (index, touch) in touches.iter().enumerate() {
-        if !is_right_behind(history, earlier, space, places, touch) {
-            return Some(index);
-        }
-    }
-    None
 }
 
 /// The changes without their places.
@@ -255,6 +210,10 @@ fn changes_of(alloc: Global, changes: &[PlacedChange]) -> Result<Vec<Change>, Me
 pub struct Followed {
     /// The index of the first touch that isn't right, or `None`.
     pub stale: Option<usize>,
+    /// What excuses the touches before that one, or all of them.
+    pub excuses: Vec<Excuse>,
+    /// How many answered touches of the segment were open beside an update, if that was asked.
+    pub beside: Option<u64>,
     /// The index of the first release that isn't right, or `None`.
     pub reachable: Option<usize>,
     /// What is left for the touches of later segments.
@@ -275,14 +234,18 @@ pub struct Followed {
 /// `reachable`: the index of the first release that is wrong: a touch that is made and answered at its event could find its memory, or it
 /// is answered otherwise than by `Done`.
 ///
+/// `excuses`: what excuses each touch, where all are right.
+///
+/// `beside`, if `counts`: how many answered touches of the segment were open while an update of it was that changes how their address looks.
+///
 /// The touches and the releases lie in the segment, whose space begins with this start. Of a segment whose log isn't clean nothing is said
 /// but that the start comes back. It takes time for the events, the log, the touches, the releases and what of the tail is merged with the
 /// changes; and not for the pages of the start: the updates of the log are done on it, and then undone. Only the first segment with
 /// releases lists all pages, and those that the tail leaves to be found, in indexes that the tail keeps from then on: four rows of 16 bytes
-/// for each page, and 32 bytes more for one that the tail leaves. Allocates a table of four bytes for each event, 160 bytes for each update
-/// that changes the space, and 216 bytes for each change of the tail that is merged; where there are releases at most 344 bytes more for
-/// each change of the segment, and for each page that it changed, and eight rows of 48 bytes for each release, of which the tail keeps
-/// half until it lists its pages again.
+/// for each page, and 24 bytes more for one that the tail leaves. Allocates a table of four bytes for each event, 160 bytes for each update
+/// that changes the space, 216 bytes for each change of the tail that is merged, and a byte for each touch; with `counts` 48 bytes more for
+/// each update that changes the space; where there are releases at most 344 bytes more for each change of the segment, and for each page
+/// that it changed, and eight rows of 48 bytes for each release, of which the tail keeps half until it lists its pages again.
 ///
 /// # Errors
 ///
@@ -294,6 +257,7 @@ pub fn follow(
     start: PlainSpace,
     touches: &[Touch],
     releases: &[Release],
+    counts: bool,
 ) -> Result<Followed, Memory>
     requires depth { start.depth ≡ segment.now.layout.depth }
     requires limit { start.limit ≡ segment.now.layout.tables }
@@ -302,6 +266,13 @@ pub fn follow(
     ensures finds { (before : Option Run) → IsTailOf before tail
         → GoesOn before segment.now start.space → HasCleanLog segment.now → IfOk result
         (λ found. FindsStale before start.space segment.now touches.now found.stale) }
+    ensures excuses { (before : Option Run) → IsTailOf before tail
+        → GoesOn before segment.now start.space → HasCleanLog segment.now → IfOk result
+        (λ found. IfNone found.stale
+        (AreExcusedBy before start.space segment.now touches.now found.excuses.items)) }
+    ensures beside { HasCleanLog segment.now → IfOk result
+        (λ found. IfSome found.beside (λ count. count ≡ beside start.space segment.now)) }
+    ensures counted { IfOk result (λ found. is_some found.beside ≡ counts) }
     ensures tail { (before : Option Run) → IsTailOf before tail
         → GoesOn before segment.now start.space → HasCleanLog segment.now → IfOk result
         (λ found. IsTailOf (Some (run_with before start.space segment.now)) found.tail) }
@@ -324,8 +295,9 @@ pub fn follow(
     let (own, space) = replay(alloc, segment, start)?;
     let done = changes_of(alloc, &own)?;
     let lefts = lefts_of(alloc, &own)?;
+    let beside = beside_if(counts, alloc, segment, &own)?;
     let history = History::of(alloc, own)?;
-    let stale = first_of(&history, &levels, &space, places, touches);
+    let (stale, excuses) = excuses_of(alloc, &history, &levels, &space, places, touches)?;
     let (reachable, index) = first_reachable(
         alloc, &history, &levels, &changes, &space, places, index, releases,
     )?;
@@ -334,6 +306,8 @@ pub fn follow(
     let start = undo_all(space, &done)?;
     Ok(Followed {
         stale,
+        excuses,
+        beside,
         reachable,
         tail: Tail {
             changes,

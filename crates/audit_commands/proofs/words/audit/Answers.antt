@@ -14,7 +14,8 @@ returns c =
     let two = with_option c.in_ok-arg-2.ensures one c.flag-2.ensures.rule c.flag-2.ensures.local in
     let three = with_option c.in_ok-arg-3.ensures two c.flag-3.ensures.rule c.flag-3.ensures.local in
     let four = with_option c.in_ok-arg-4.ensures three c.flag-4.ensures.rule c.flag-4.ensures.local in
+    let five = with_option c.in_ok-arg-5.ensures four c.least_overlap.ensures.rule c.least_overlap.ensures.local in
     record {
-      app = IfOk-weaker c.arg-5.result _ _ (λ command h. (with_option h four c.files.ensures.rule c.files.ensures.local).app_is) c.arg-5.ensures;
-      local = IfOk-weaker c.arg-5.result _ _ (λ command h. (with_option h four c.files.ensures.rule c.files.ensures.local).local) c.arg-5.ensures;
+      app = IfOk-weaker c.arg-6.result _ _ (λ command h. (with_option h five c.files.ensures.rule c.files.ensures.local).app_is) c.arg-6.ensures;
+      local = IfOk-weaker c.arg-6.result _ _ (λ command h. (with_option h five c.files.ensures.rule c.files.ensures.local).local) c.arg-6.ensures;
     }

@@ -1,3 +1,6 @@
+use Rattle.std.proofs.Common.{Ok}
+use Rattle.audit_readers.specs.declared.fault.ProgFault.{ProgFault}
+use Rattle.audit_readers.proofs.Audits.{is_audit}
 use Rattle.audit_readers.proofs.Reports.{writes_report}
 use Rattle.audit_readers.proofs.audit.audit_io.Goals as goal
 
@@ -5,5 +8,6 @@ pub returns-clause-ok : goal.returns-clause-ok
 returns-clause-ok g c =
     let report = c.in_ok-report.report in
     let has = c.in_ok-read.ensures.ok in
-    writes_report _ _ _ _ c.write_report.result has.input report.text.bytes.items report.status has.is_read (c.in_ok-report.ensures has.input has.read_is)
-    c.write_report.ensures.ok
+    let is = is_audit c.args.as_json c.depends-counts.result c.args.least has.input report.text.bytes.items report.status c.in_ok-found.found
+    c.depends-counts.ensures (c.in_ok-found.ensures has.input has.read_is) c.in_ok-report.ensures.text c.in_ok-report.ensures.status in
+    writes_report {E = ProgFault} _ _ _ _ (Ok c.in_ok-status.status) has.input report.text.bytes.items report.status has.is_read is c.in_ok-status.ensures.ok

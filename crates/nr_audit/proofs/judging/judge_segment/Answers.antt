@@ -1,4 +1,4 @@
-use Rattle.std.proofs.Common.{◌≡◌, Option, Some, ap, sym, ◌∙◌, subst}
+use Rattle.std.proofs.Common.{◌≡◌, IfOk, IfSome, Option, Some, ap, sym, ◌∙◌, subst}
 use Rattle.std.proofs.lemmas.Result.{err_from_is_err_and}
 use Rattle.vs_types.specs.Refusal.{IfRefused}
 use Rattle.vs_types.specs.Space.{Space}
@@ -7,6 +7,7 @@ use Rattle.nr_trace.specs.Orders.{recorded_order, space_from}
 use Rattle.nr_joined.specs.Run.{Run, run_with}
 use Rattle.nr_touch.specs.Tails.{IsSoundTail, IsTailOf}
 use Rattle.nr_audit.specs.Faults.{IsFirstAfter, IsSoundAfter}
+use Rattle.nr_audit.specs.Met.{HasMet}
 use Rattle.nr_audit.specs.Segments.{pages_before, run_after, FitsPast, IsKept, IsRightAfter}
 use Rattle.nr_audit.specs.Start.{space_before, BeginsWrong}
 use Rattle.nr_audit.specs.Touches.{HasRightTouches}
@@ -50,6 +51,14 @@ returns-clause-kept c = λ run behind.
     ok_both (λ right. right.1.space ≡ space_of segment.layout (space_from start.space segment segment.log))
     (λ right. IsTailOf (Some (run_with run start.space segment)) right.1.tail) (λ right. IsKept (run_after run segment) right.1) c.search.result
     (λ right. kept_after run segment c.parts_of-parts.result.1 start.space right.1 b) c.search.ensures.space (c.search.ensures.tail run b.of_tail b.goes_on)
+
+pub returns-clause-met : goal.returns-clause-met
+returns-clause-met c = λ run behind.
+    let segment = c.args.segment.now in
+    let start = c.in_ok-start.start in
+    let b = begun run c.args.before segment c.parts_of-parts.result.0 c.parts_of-parts.result.1 start behind c.parts_of-parts.ensures.space
+    c.parts_of-parts.ensures.tail c.parts_of-parts.ensures.none c.in_ok-start.ensures.space c.in_ok-start.ensures.right in
+    subst (λ (s : Space). IfOk c.search.result (λ right. IfSome right.2 (HasMet run s segment))) b.same (c.search.ensures.met run b.of_tail b.goes_on)
 
 pub returns-clause-fits : goal.returns-clause-fits
 returns-clause-fits c =

@@ -114,6 +114,15 @@ returns-clause-tail c = λ run of_tail goes_on.
     let clean = subst (λ t. HasCleanLog t) same (clean_after_positions t (after_positions t calls c.in_ok-places.ensures.clean c.in_ok-standing.ensures.clean.0)) in
     c.in_ok-touched.ensures.tail run of_tail goes_on clean
 
+pub returns-clause-met : goal.returns-clause-met
+returns-clause-met c = λ run of_tail goes_on.
+    let same = c.in_ok-history.ensures.history in
+    let t = c.in_ok-history.history in
+    let calls = subst (λ t. HasNone IsCallFault t) (sym same) c.in_ok-history.ensures.clean in
+    let clean = subst (λ t. HasCleanLog t) same (clean_after_positions t (after_positions t calls c.in_ok-places.ensures.clean c.in_ok-standing.ensures.clean.0)) in
+    rw (no_stale c.in_ok-touched.touched.stale c.in_ok-touched.touched.reachable (sym c.late_fault.ensures ∙ c.in_default.is)) at
+    (c.in_ok-touched.ensures.met run of_tail goes_on clean)
+
 pub returns-in_err-check_dumps-clause-first : goal.returns-in_err-check_dumps-clause-first
 returns-in_err-check_dumps-clause-first c = λ run of_tail goes_on.
     let start = c.in_ok-touched.touched.start.space in

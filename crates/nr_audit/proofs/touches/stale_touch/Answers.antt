@@ -1,15 +1,17 @@
-use Rattle.std.proofs.Common.{List, length, slice_get, option_map, option_and_then, ap, sym, ◌∙◌, subst}
+use Rattle.std.proofs.Common.{IfSome, List, length, slice_get, option_map, option_and_then, ap, sym, ◌∙◌, subst}
 use Rattle.vs_types.specs.Space.{IsSpace}
 use Rattle.vs_types.specs.declared.depth.Depth.{Depth}
 use Rattle.vs_plain.specs.Plain.{BoundedSpace}
 use Rattle.nr_touch.specs.Releases.{AreMemory}
 use Rattle.nr_touch.specs.declared.releases.release.Release.{Release}
 use Rattle.nr_touch.specs.declared.touches.touch.Touch.{Touch}
+use Rattle.nr_touch.specs.Excuses.{AreExcusedBy}
+use Rattle.nr_audit.specs.Met.{AreTouchesOf, HasMet}
 use Rattle.nr_audit.specs.inside.Begun.{AreReleasesBelow, AreTouchesBelow}
 use Rattle.nr_audit.proofs.Judgements.{no_touches}
 use Rattle.nr_audit.proofs.Pasts.{left_quiet}
 use Rattle.nr_audit.proofs.ReleaseLists.{no_releases, none_found as releases_found, some_found as reached_found}
-use Rattle.nr_audit.proofs.TouchLists.{none_found, some_found}
+use Rattle.nr_audit.proofs.TouchLists.{all_touches, none_found, some_found, where_none}
 use Rattle.nr_audit.proofs.touches.stale_touch.Goals as goal
 
 -- `deref` and `deref-2` are the lists that are followed, `deref-3` and `deref-4` those in which the numbers are looked up
@@ -60,7 +62,26 @@ returns-clause-reaches c = λ run of_tail goes_on clean.
 pub returns-clause-tail : goal.returns-clause-tail
 returns-clause-tail c = λ run of_tail goes_on clean. c.in_ok-followed.ensures.tail run of_tail goes_on clean
 
+pub returns-clause-met : goal.returns-clause-met
+returns-clause-met c = λ run of_tail goes_on clean.
+    let segment = c.args.segment.now in
+    let start = c.args.start.space in
+    let all = c.deref.result.now in
+    let listed = c.deref.ensures.value in
+    let are = subst (λ (ts : List Touch). AreTouchesOf segment ts) (sym c.deref-5.ensures.value) (all_touches segment _ c.in_ok-touches.ensures) in
+    where_none run start segment all c.in_ok-followed.followed.stale c.number_in-stale.result
+    (AreExcusedBy run start segment all c.in_ok-followed.followed.excuses.items) (IfSome c.in_ok-met-2.met (HasMet run start segment))
+    (λ excused. c.in_ok-met-2.ensures.met run start are
+    (rw (c.deref-5.ensures.value, c.deref-6.ensures.value, ← listed) excused) (c.in_ok-followed.ensures.beside clean))
+    (c.in_ok-followed.ensures.finds run of_tail goes_on clean)
+    (c.number_in-stale.ensures ∙ ap (λ (ts : List Touch). option_map (λ (t : Touch). t.made) (option_and_then (slice_get ts) c.in_ok-followed.followed.stale))
+    (c.deref-3.ensures.value ∙ sym c.deref.ensures.value))
+    (c.in_ok-followed.ensures.excuses run of_tail goes_on clean)
+
 -- nothing is replayed
+
+pub untouched-requires : goal.untouched-requires
+untouched-requires c = (c.is_quiet.ensures c.if-is_quiet.true).untouched
 
 pub returns-then-is_quiet-clause-none : goal.returns-then-is_quiet-clause-none
 returns-then-is_quiet-clause-none c = λ run of_tail goes_on clean.

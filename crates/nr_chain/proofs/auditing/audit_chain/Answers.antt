@@ -24,7 +24,7 @@ segments-preserved-in-More c =
 pub segments-preserved : goal.segments-preserved
 segments-preserved c =
     leads_on c.args.bytes.now c.segments.chain c.in-Right.next c.segments.orders.items c.push.new.self.items c.segments.rest.now _ c.in-Right.count
-    c.in-Right.order c.segments.invariant
+    c.in-Right.order _ c.segments.invariant
     (λ run kept. subst (FeedsChain run c.segments.chain c.segments.rest.now) c.in-Right.is (c.in_ok-next.ensures.feeds run kept))
     c.in_ok-push-in-Right.ensures.items (take_all (length c.segments.rest.now - c.in-Right.count) (drop c.in-Right.count c.segments.rest.now)
     (omega (arith, length-drop c.in-Right.count c.segments.rest.now)))

@@ -26,8 +26,9 @@ returns-in-Ok-judge_last-clause-judges c = λ run kept.
     let spelled = ended c.args.feed c.in-Ok.segment c.requires.whole c.in-Ok.ensures in
     let there = behind run c.args.last c.past_of-before.result c.args.feed c.in-Ok.segment c.past_of-before.ensures c.requires.behind kept spelled in
     judged_right run c.args.last c.args.feed c.new-feed.result c.in-Ok.segment c.layout-layout.result c.args.count
-    c.in-Ok-judge_last.order c.in-Ok-judge_last.past kept c.requires.behind c.layout-layout.ensures.reads spelled
-    (c.in-Ok-judge_last.ensures.sound run there) c.in-Ok-judge_last.ensures.order (c.in-Ok-judge_last.ensures.kept run there) c.new-feed.ensures
+    c.in-Ok-judge_last.order c.in-Ok-judge_last.past c.in-Ok-judge_last.met kept c.requires.behind c.layout-layout.ensures.reads spelled
+    (c.in-Ok-judge_last.ensures.sound run there) c.in-Ok-judge_last.ensures.order (c.in-Ok-judge_last.ensures.kept run there)
+    (c.in-Ok-judge_last.ensures.met run there) c.new-feed.ensures
 
 pub returns-in-Err-Refused-clause-judges : goal.returns-in-Err-Refused-clause-judges
 returns-in-Err-Refused-clause-judges c = λ run kept.

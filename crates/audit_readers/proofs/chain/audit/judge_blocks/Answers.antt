@@ -8,6 +8,7 @@ use Rattle.audit_readers.specs.declared.fault.ProgFault.{ProgFault}
 use Rattle.audit_readers.specs.declared.fault.ProgFault.TheVariants.{CannotRead, CannotWrite}
 use Rattle.audit_readers.specs.ChainAudit.{HasWrittenFirst}
 use Rattle.audit_readers.specs.inside.Going.{TakesBlock}
+use Rattle.audit_readers.specs.inside.Judged.{totals_begun}
 use Rattle.audit_readers.specs.declared.chain.audit.Taken.{Taken}
 use Rattle.audit_readers.proofs.Going.{passed_on}
 use Rattle.audit_readers.proofs.Reading.{all_written, block_at_once, block_refused, few_kept, few_read, kept_at_once, next_block, read_nothing}
@@ -16,7 +17,9 @@ use Rattle.audit_readers.proofs.chain.audit.judge_blocks.Goals as goal
 
 pub loop-room-init : goal.loop-room-init
 loop-room-init g c =
-    reading_begins c.args.style (g.R.Read.remaining c.args.reader.now) (g.W.Write.contents c.args.writer.now) c.new-chain.result c.new-chain.ensures
+    rw c.totals_begun-totals.ensures
+    (reading_begins c.args.style (g.R.Read.remaining c.args.reader.now) (g.W.Write.contents c.args.writer.now) (totals_begun c.args.counts)
+    c.new-chain.result c.new-chain.ensures)
 
 pub returns-in_err-count-clause-first : goal.returns-in_err-count-clause-first
 returns-in_err-count-clause-first g c =
@@ -79,12 +82,12 @@ returns-in-Wrong-clause-ok g c =
     let contents = g.W.Write.contents in
     let piece = take c.in_ok-count.count c.read_block.new.block in
     let taken = subst (λ (t : Taken). TakesBlock c.loop-room.invariant.last c.args.style c.loop-room.chain c.loop-room.number piece (contents c.loop-room.writer)
-    (contents c.take_block.new.writer) t) c.in-Wrong.is
+    (contents c.take_block.new.writer) c.loop-room.totals t) c.in-Wrong.is
     (c.in_ok-next.ensures.ok c.loop-room.invariant.last c.loop-room.invariant.kept c.loop-room.invariant.short) in
     let here = next_block c.loop-room.invariant.last c.args.style _ (known c.loop-room.reader) (known c.read_block.new.reader) _ (contents c.loop-room.writer)
     (contents c.take_block.new.writer) c.loop-room.chain piece taken.0 taken.1 c.loop-room.number c.in-Wrong.right c.loop-room.invariant.here
-    c.in_ok-count.ensures.ok taken.2 in
-    (taken.0, taken.1, here, taken.3, taken.4)
+    c.in_ok-count.ensures.ok taken.3 in
+    (taken.0, taken.1, taken.2, here, taken.4, taken.5)
 
 pub returns-in-Wrong-clause-few : goal.returns-in-Wrong-clause-few
 returns-in-Wrong-clause-few g c =
@@ -98,7 +101,7 @@ loop-room-preserved g c =
     let piece = take c.in_ok-count.count c.read_block.new.block in
     let full : length c.read_block.new.block ≡ 4096 = omega (arith, c.read_block.auto.block, c.loop-room.auto.block, c.requires) in
     let taken = subst (λ (t : Taken). TakesBlock c.loop-room.invariant.last c.args.style c.loop-room.chain c.loop-room.number piece (contents c.loop-room.writer)
-    (contents c.take_block.new.writer) t) c.in-More.is
+    (contents c.take_block.new.writer) c.loop-room.totals t) c.in-More.is
     (c.in_ok-next.ensures.ok c.loop-room.invariant.last c.loop-room.invariant.kept c.loop-room.invariant.short) in
     reads_on c.args.style _ (known c.loop-room.reader) (known c.read_block.new.reader) _ (contents c.loop-room.writer) (contents c.take_block.new.writer)
     c.loop-room.chain c.in-More.next piece c.loop-room.number c.in-More.right c.loop-room.room (c.loop-room.room - 1) c.loop-room.invariant

@@ -7,7 +7,7 @@ use Rattle.audit_readers.specs.declared.fault.ProgFault.{ProgFault}
 use Rattle.audit_readers.specs.declared.fault.ProgFault.TheVariants.{CannotWrite, Memory}
 use Rattle.audit_texts.specs.ChainText.{shown_lines}
 use Rattle.audit_readers.proofs.Growing.{grows_on}
-use Rattle.audit_readers.proofs.Going.{block_begins, block_grows, block_left, block_taken, block_wrong, next_segment, passed_on, some_taken, unwritten_lines}
+use Rattle.audit_readers.proofs.Going.{block_begins, block_grows, block_left, block_taken, block_wrong, next_segment, passed_on, some_taken, still_counted, unwritten_lines}
 use Rattle.audit_readers.proofs.chain.audit.take_block.Goals as goal
 
 pub segments-init : goal.segments-init
@@ -24,9 +24,11 @@ pub segments-preserved : goal.segments-preserved
 segments-preserved g c = λ run kept short.
     let under = c.segments.invariant run kept short in
     let long = length-drop c.in-Right.count c.segments.rest.now in
+    let within = subst (EndsWithin c.is_some-counts.result c.segments.rest.now) c.in-Right.is c.in_ok-next.ensures.within in
     next_segment run c.args.style c.args.begun c.segments.chain c.in-Right.next c.args.right c.segments.number c.in-Right.count c.args.block.now
-    c.segments.rest.now _ c.in-Right.order _ _ _ under
+    c.segments.rest.now _ c.in-Right.order c.in-Right.met _ _ _ _ under
     (subst (FeedsChain under.last c.segments.chain c.segments.rest.now) c.in-Right.is (c.in_ok-next.ensures.feeds under.last under.kept))
+    (within.2 ∙ c.is_some-counts.ensures ∙ sym (still_counted _ _ run under.last _ _ under.taken.orders under.taken.goes_on)) c.totals_if-totals.ensures
     c.in_ok-write_right-in-Right.ensures.ok
     (take_all (length c.segments.rest.now - c.in-Right.count) (drop c.in-Right.count c.segments.rest.now) (omega arith))
 
@@ -34,7 +36,7 @@ pub overflow_add-number : goal.overflow_add-number
 overflow_add-number g c =
     let known = c.requires.known in
     let under = c.segments.invariant known.0 known.1 known.2 in
-    let within = subst (EndsWithin c.segments.rest.now) c.in-Right.is c.in_ok-next.ensures.within in
+    let within = subst (EndsWithin c.is_some-counts.result c.segments.rest.now) c.in-Right.is c.in_ok-next.ensures.within in
     let few = under.few in
     let room = c.requires.room in
     omega (arith, few, within.0, within.1, room)
@@ -60,7 +62,7 @@ returns-in_err-write_right-in-Right-clause-err g c = λ run kept short.
     let contents = g.W.Write.contents in
     passed_on c.from_residual-in_err-write_right-in-Right.result c.in_err-write_right-in-Right.field-0.0
     (λ (fault : ProgFault). (fault ≡ CannotWrite) ⊎ ((fault ≡ Memory)
-    × TakesSome run c.args.style c.args.begun c.args.right c.args.block.now (contents c.args.writer.now) (contents c.write_right.new.writer)))
+    × TakesSome run c.args.style c.args.begun c.args.right c.args.block.now (contents c.args.writer.now) (contents c.write_right.new.writer) c.args.counted))
     c.from_residual-in_err-write_right-in-Right.ensures.1
     (unwritten_lines run c.args.style c.args.begun c.segments.chain c.args.right c.segments.number c.args.block.now c.segments.rest.now
     (contents c.args.writer.now) contents c.segments.writer c.write_right.new.writer c.in_err-write_right-in-Right.field-0.0
@@ -79,7 +81,7 @@ returns-in_err-next-clause-err g c = λ run kept short.
     let contents = g.W.Write.contents in
     passed_on c.from_residual.result Memory
     (λ (fault : ProgFault). (fault ≡ CannotWrite) ⊎ ((fault ≡ Memory)
-    × TakesSome run c.args.style c.args.begun c.args.right c.args.block.now (contents c.args.writer.now) (contents c.segments.writer)))
+    × TakesSome run c.args.style c.args.begun c.args.right c.args.block.now (contents c.args.writer.now) (contents c.segments.writer) c.args.counted))
     c.from_residual.ensures.1
     (inr (
       refl,

@@ -9,4 +9,4 @@ pub returns : goal.returns
 returns c =
     let is = c.in_ok-value.ensures in
     IfOk-weaker c.json_line.result _ _
-    (λ text line. line (ap has_float is ∙ end_has_no_float c.args.number c.args.found) ∙ ap json_line is) c.json_line.ensures
+    (λ text line. line (ap has_float is ∙ end_has_no_float c.args.number c.args.totals c.args.found) ∙ ap json_line is) c.json_line.ensures

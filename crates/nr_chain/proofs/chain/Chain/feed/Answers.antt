@@ -19,7 +19,7 @@ returns-then-is_whole-clause-feeds c = λ run kept.
 
 pub returns-then-is_whole-clause-within : goal.returns-then-is_whole-clause-within
 returns-then-is_whole-clause-within c =
-    judged_within c.self.inside.last c.self.inside.begun c.self.inside.feed c.feed.new.self c.args.piece.now c.in-Ok.count c.judge_whole.result
+    judged_within c.args.counts c.self.inside.last c.self.inside.begun c.self.inside.feed c.feed.new.self c.args.piece.now c.in-Ok.count c.judge_whole.result
     c.self.invariant c.in-Ok.ensures (c.is_whole.ensures.0 c.if-is_whole.true) c.judge_whole.ensures.ends
 
 pub invariant_of-next : goal.invariant_of-next
@@ -41,4 +41,4 @@ returns-in-Err-clause-feeds c = λ run kept.
     c.self.view_is run kept c.in-Err.fail c.refused.result c.in-Err.ensures c.refused.ensures
 
 pub returns-in-Err-clause-within : goal.returns-in-Err-clause-within
-returns-in-Err-clause-within c = refused_within c.args.piece.now c.in-Err.fail c.refused.result c.refused.ensures
+returns-in-Err-clause-within c = refused_within c.args.counts c.args.piece.now c.in-Err.fail c.refused.result c.refused.ensures

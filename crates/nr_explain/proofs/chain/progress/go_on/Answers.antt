@@ -4,25 +4,27 @@ use Rattle.vs_types.specs.Space.{Space}
 use Rattle.vs_plain.specs.Plain.{BoundedSpace}
 use Rattle.nr_touch.specs.Tails.{HasIndexes}
 use Rattle.nr_audit.specs.Start.{first_space}
-use Rattle.nr_explain.specs.inside.Reading.{all_states, space_seen, sums_seen}
-use Rattle.nr_explain.proofs.GoneOn.{same_end, summed}
+use Rattle.nr_explain.specs.Progress.{sums_after}
+use Rattle.nr_explain.specs.inside.Reading.{all_states, space_seen}
+use Rattle.nr_explain.specs.declared.chain.progress.Sums.{Sums}
+use Rattle.nr_explain.proofs.GoneOn.{same_end}
 use Rattle.nr_explain.proofs.chain.progress.go_on.Goals as goal
 
 pub returns-clause-space : goal.returns-clause-space
 returns-clause-space c =
-    let is = c.in_ok-near.ensures in
-    same_end c.args.segment.now (first_space (space_seen (all_states c.args.last)) c.args.segment.now) c.in_ok-first.first c.in_ok-near.space c.args.after.space
-    c.in_ok-first.ensures.space is.space is.depth is.limit c.requires.after
+    let is = c.in_ok-space.ensures in
+    same_end c.args.segment.now (first_space (space_seen (all_states c.args.last)) c.args.segment.now) c.in_ok-first.first c.in_ok-space.space c.args.after.space
+    c.in_ok-first.ensures.space (is.space c.requires.clean) is.depth is.limit c.requires.after
 
 pub returns-clause-tail : goal.returns-clause-tail
 returns-clause-tail c = record { left = c.in_ok-left.ensures.changes; of_run = λ run of_run. c.in_ok-left.ensures.tail (Some run) of_run }
 
 pub returns-clause-twice : goal.returns-clause-twice
 returns-clause-twice c =
-    let is = c.in_ok-near.ensures in
-    let same : c.in_ok-near.space ≡ c.args.after.space =
-    same_end c.args.segment.now (first_space (space_seen (all_states c.args.last)) c.args.segment.now) c.in_ok-first.first c.in_ok-near.space
-    c.args.after.space c.in_ok-first.ensures.space is.space is.depth is.limit c.requires.after in
+    let is = c.in_ok-space.ensures in
+    let same : c.in_ok-space.space ≡ c.args.after.space =
+    same_end c.args.segment.now (first_space (space_seen (all_states c.args.last)) c.args.segment.now) c.in_ok-first.first c.in_ok-space.space
+    c.args.after.space c.in_ok-first.ensures.space (is.space c.requires.clean) is.depth is.limit c.requires.after in
     record {
       space = sym same;
       left = sym c.in_ok-left.ensures.changes;
@@ -34,6 +36,4 @@ returns-clause-twice c =
 
 pub returns-clause-sums : goal.returns-clause-sums
 returns-clause-sums c =
-    summed c.args.segment.now (first_space (space_seen (all_states c.args.last)) c.args.segment.now) c.in_ok-first.first (sums_seen (all_states c.args.last))
-    c.sums_of-sums.result c.in_ok-sums.sums c.in_ok-near.near c.args.size c.in_ok-first.ensures.space c.sums_of-sums.ensures c.in_ok-near.ensures.count
-    c.in_ok-sums.ensures
+    c.sums_after-sums.ensures ∙ ap (λ (s : Sums). sums_after s c.args.segment.now c.args.met c.args.size) c.sums_of-sums.ensures

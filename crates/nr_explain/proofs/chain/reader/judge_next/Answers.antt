@@ -1,6 +1,9 @@
-use Rattle.std.proofs.Common.{Some, refl, ap, sym, ◌∙◌, subst}
+use Rattle.std.proofs.Common.{IfSome, Option, Some, refl, ap, sym, ◌∙◌, subst}
 use Rattle.nr_trace.specs.declared.fault.Fault.{Fault}
 use Rattle.nr_audit.specs.Faults.{IsFirstAfter}
+use Rattle.nr_audit.specs.Met.{HasMet}
+use Rattle.nr_audit.specs.Start.{begins_in}
+use Rattle.nr_audit.specs.declared.met.Met.{Met}
 use Rattle.nr_explain.specs.Progress.{run_in}
 use Rattle.nr_explain.specs.inside.Reading.{all_states}
 use Rattle.nr_explain.proofs.Feeding.{fresh_reading}
@@ -38,6 +41,9 @@ go_on-requires-clause-index c =
 pub go_on-requires-clause-sound : goal.go_on-requires-clause-sound
 go_on-requires-clause-sound c = c.in-Ok.ensures.fits.tail
 
+pub counted-met-requires : goal.counted-met-requires
+counted-met-requires c = c.in-Ok.ensures.counted
+
 pub invariant_of-next : goal.invariant_of-next
 invariant_of-next c =
     let came = c.in_ok-came-in-Ok.came in
@@ -45,7 +51,7 @@ invariant_of-next c =
     let past = c.in-Ok.past in
     fresh_reading (Some came) (Some c.in_ok-came-in-Ok.kept) _ c.new-feed.result c.new.ensures.items c.new-feed.ensures
     (fits_after came past c.args.segment.now c.in-Ok.ensures.fits is.layout is.space is.tail) is.twice
-    (known_next c.args.last c.args.segment.now c.args.before c.requires.twice c.requires.follows came past c.args.size c.requires.known
+    (known_next c.args.last c.args.segment.now c.args.before c.requires.twice c.requires.follows came past c.counted-met.result c.args.size c.requires.known
     (λ came is. c.in-Ok.ensures.kept (run_in came) is) is.layout is.space is.tail is.began is.sums)
 
 pub returns-in-Ok : goal.returns-in-Ok
@@ -55,8 +61,11 @@ returns-in-Ok c = λ came seen.
       refl,
       c.in-Ok.ensures.sound (run_in came) here,
       record {
+        met = c.counted-met.result;
+        counted = subst (λ (o : Option Met). IfSome o (HasMet (run_in came) (begins_in (run_in came) c.args.segment.now) c.args.segment.now)) c.counted-met.ensures
+            (c.in-Ok.ensures.met (run_in came) here);
         seen = seen_next c.args.last c.args.segment.now c.args.before c.requires.twice c.requires.follows came c.in_ok-came-in-Ok.came c.in-Ok.past
-            c.args.size seen (c.in-Ok.ensures.kept (run_in came) here) is.layout is.space is.tail is.began is.sums;
+            c.counted-met.result c.args.size seen (c.in-Ok.ensures.kept (run_in came) here) is.layout is.space is.tail is.began is.sums;
         none = c.new.ensures.items;
       },
     )
