@@ -21,7 +21,7 @@ use Rattle.chain_cuts.specs.Cut.{without_dumps, IsCutAt}
 use Rattle.nr_joined.specs.Joined.{calls_behind, joined_traces}
 use Rattle.nr_joined.proofs.Lists.{before_left, before_in}
 use Rattle.nr_joined.proofs.Orders.{space_left}
-use Rattle.nr_joined.proofs.Parts.{call_left, reply_left, HasEarlierCalls, answers_left, answers_to_left, reply_to_left, is_call_left}
+use Rattle.nr_joined.proofs.Parts.{call_left, reply_left, answers_left, answers_to_left, reply_to_left, is_call_left}
 use Rattle.nr_joined.proofs.Parts.{is_update_left, is_update_from_left}
 use Rattle.nr_joined.proofs.Places.{is_read_from_left, placed_left, placed_in, placed_before, PlacedRight, stands_left, known_left, floor_above, knows_more}
 use Rattle.nr_chain.proofs.Recorded.{recorded_both}
@@ -64,9 +64,6 @@ module _ (start : Space) (first second : Recording) (closed : IsCutAt first seco
       let within : index < length first.events = reply_below first index reply is in
       let (lower, is_call) = behind_its_call whole index reply (λ h. faultless (NoSuchCall index) h) (there index reply is) in
       (lower, is_call_left first second reply.call (omega arith) is_call)
-
-  earlier_calls : HasEarlierCalls first
-  earlier_calls index reply is = (replies index reply is).0
 
   within : (index : ℕ) (reply : Response) → reply_of first index ≡ Some reply → reply.call < length first.events
   within index reply is = call_within first reply.call (replies index reply is).1

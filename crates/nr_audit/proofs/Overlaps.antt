@@ -215,12 +215,6 @@ module _ (trace : Recording) (replies : List ℕ) (are : AreReplies trace replie
 -- ---- how far replies reach
 
 module _ (trace : Recording) (replies : List ℕ) where
-  pub reach_none : IsReachOf trace replies 0 0
-  reach_none = record {
-    all = λ call low asks. absurd (omega arith);
-    met = inl refl;
-  }
-
   pub reach_stays : (end reach : ℕ) → (Asks trace end → ⊥) → IsReachOf trace replies end reach → IsReachOf trace replies (end + 1) reach
   reach_stays end reach none is = record {
     all = λ call low asks. elim (cases_lt call end) [

@@ -1,5 +1,5 @@
 -- The start of a segment translates as the space after those before it.
-use Rattle.std.proofs.Common.{◌≡◌, ℕ, List, [], ◌∷◌, ◌++◌, slice_get, Option, Some, None, refl, sym, ap, ◌∙◌, subst}
+use Rattle.std.proofs.Common.{◌≡◌, List, [], ◌∷◌, ◌++◌, Option, Some, None, refl, sym, subst}
 use Rattle.std.specs.Prelude.{⊤}
 use Rattle.vs_types.specs.Space.{Space, IsSpace}
 use Rattle.vs_types.specs.declared.depth.Depth.{Depth}

@@ -170,7 +170,3 @@ module _ (start : Space) (first second : Recording) (same_layout : second.layout
     not_foreseen = foresees_back m it.not_foreseen;
     absent = sym (look_back m answered_within it.within it.not_foreseen) ∙ it.absent;
   }
-
-  pub right_back : touch.answered < length first.events → touch.known ≤ long → IsRightTouch start whole touch → IsRightTouch start first touch
-  right_back answered_within known_within (inl in_time) = inl (in_time_back answered_within in_time)
-  right_back answered_within known_within (inr (fault, m, it)) = inr (fault, min long m, lagging_back m answered_within known_within it)

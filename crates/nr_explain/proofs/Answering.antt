@@ -14,7 +14,7 @@ use Rattle.nr_trace.specs.Calls.{Answers, Invocation, IsCall, call_of, made_by, 
 use Rattle.nr_trace.specs.declared.event.Event.{Event}
 use Rattle.nr_trace.specs.Laws.{HasCleanLog}
 use Rattle.nr_trace.proofs.LawsOfCalls.{answers_from, reply_that_answers}
-use Rattle.nr_touch.specs.Touches.{IsAnsweredBefore, IsMadeAfter}
+use Rattle.nr_touch.specs.Touches.{IsAnsweredBefore}
 use Rattle.nr_touch.specs.declared.touches.touch.Touch.{Touch}
 use Rattle.nr_touch.specs.Replies.{AreReplies}
 use Rattle.nr_audit.specs.Touches.{HasTouch}
@@ -105,15 +105,6 @@ none_open segment call touch has made none = none touch.answered (subst (Answers
 
 pub less_if : (a b : ℕ) → IsTrue (nat_lt a b) ↔ (a < b)
 less_if a b = (λ h. grind (arith, nat_tests), λ h. grind (arith, nat_tests))
-
--- ---- updates that are made later
-
-pub made_later : (segment : Recording) (place call event : ℕ) → slice_get segment.log place ≡ Some call → event < call → IsMadeAfter segment place event
-made_later segment place call event is low = (call, is, low)
-
-pub not_made_later : (segment : Recording) (place call event : ℕ) → slice_get segment.log place ≡ Some call → call ≤ event
-    → IsMadeAfter segment place event → ⊥
-not_made_later segment place call event is low h = let same = same_Some h.0 call (sym h.1 ∙ is) in let high = h.2 in omega arith
 
 -- the least of two
 pub least : (a b m : ℕ) → m ≡ min a b → (m ≤ b) × (m ≤ a) × ((m ≡ b) ⊎ (m ≡ a))

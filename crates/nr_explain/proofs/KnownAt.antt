@@ -1,42 +1,18 @@
 -- How many entries a replica is known to have applied, one event further.
-use Rattle.std.proofs.Common.{◌≡◌, ℕ, suc, ◌+◌, ◌<◌, ◌==◌, Bool, max, List, take, map, fold, slice_get, Option, Some, None, option_to_list, option_and_then}
-use Rattle.std.proofs.Common.{if◌then◌else◌, refl, sym, ap, ◌∙◌, add-one, eq-eqb, ne_eqb, arith}
+use Rattle.std.proofs.Common.{◌≡◌, ℕ, suc, ◌+◌, ◌<◌, max, List, take, map, fold, slice_get, Option, Some, None, option_to_list, option_and_then}
+use Rattle.std.proofs.Common.{refl, sym, ap, ◌∙◌, add-one, arith}
 use Rattle.std.specs.Prelude.{filter_map}
-use Rattle.std.specs.Option.{option_map_or}
 use Rattle.std.proofs.lemmas.List.{map-append}
 use Rattle.std.proofs.lemmas.List.Elements.{filter_map-append}
 use Rattle.std.proofs.lemmas.Grind.{fold-append}
 use Rattle.nr_trace.specs.Recording.{Recording}
-use Rattle.nr_trace.specs.Calls.{Invocation, Response, call_of, reply_in, reply_of}
-use Rattle.nr_trace.specs.Orders.{known_by}
+use Rattle.nr_trace.specs.Calls.{Response, reply_in, reply_of}
 use Rattle.nr_trace.specs.declared.event.Event.{Event}
 use Rattle.nr_trace.proofs.LawsOfLists.{take-next}
 use Rattle.nr_audit.specs.Touches.{known_at, known_to}
 use Rattle.nr_explain.specs.Facts.{IsReplyOf, response}
 use Rattle.nr_explain.specs.ChainFacts.{IsShownBy}
 use Rattle.nr_explain.specs.declared.trace.evidence.RecordedReply.{RecordedReply}
-
--- ---- what a reply shows
-
-abbrev shown_of : Recording → ℕ → Response → Invocation → ℕ
-shown_of trace replica reply made = if made.replica == replica then known_by trace reply else 0
-
-made_so : (trace : Recording) (replica : ℕ) (reply : Response) (made : Invocation) → call_of trace reply.call ≡ Some made
-    → known_to trace replica reply ≡ shown_of trace replica reply made
-made_so trace replica reply made is = ap (λ (o : Option Invocation). option_map_or (shown_of trace replica reply) o 0) is
-
-pub known_here : (trace : Recording) (replica : ℕ) (reply : Response) (made : Invocation) → call_of trace reply.call ≡ Some made
-    → made.replica ≡ replica → known_to trace replica reply ≡ known_by trace reply
-known_here trace replica reply made is here =
-    made_so trace replica reply made is ∙ ap (λ (b : Bool). if b then known_by trace reply else 0) (eq-eqb made.replica replica here)
-
-pub known_elsewhere : (trace : Recording) (replica : ℕ) (reply : Response) (made : Invocation) → call_of trace reply.call ≡ Some made
-    → (made.replica ≡ replica → ⊥) → known_to trace replica reply ≡ 0
-known_elsewhere trace replica reply made is apart =
-    made_so trace replica reply made is ∙ ap (λ (b : Bool). if b then known_by trace reply else 0) (ne_eqb made.replica replica apart)
-
-pub known_nowhere : (trace : Recording) (replica : ℕ) (reply : Response) → call_of trace reply.call ≡ None → known_to trace replica reply ≡ 0
-known_nowhere trace replica reply none = ap (λ (o : Option Invocation). option_map_or (shown_of trace replica reply) o 0) none
 
 -- ---- one event more
 

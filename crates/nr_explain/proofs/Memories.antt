@@ -14,15 +14,6 @@ use Rattle.nr_explain.specs.Nearest.{IsWhere, Translates}
 use Rattle.nr_explain.specs.inside.Nearest.{LeadsTo}
 
 module _ (page : Page) (phys : ℕ) where
-  pub leads_low : phys < page.phys → (address : ℕ) → LeadsTo page address phys → ⊥
-  leads_low less address to = let sum = to.leads in omega (arith, less, sum)
-
-  pub leads_high : page.phys ≤ phys → bytes_of page.size ≤ phys - page.phys → (address : ℕ) → LeadsTo page address phys → ⊥
-  leads_high low high address to =
-      let (from, until) = (covers_means page address).0 to.covered in
-      let sum = to.leads in
-      omega (arith, low, high, from, until, sum)
-
   module _ (low : page.phys ≤ phys) (within : phys - page.phys < bytes_of page.size) where
     here_covered : IsTrue (covers page (page.base + (phys - page.phys)))
     here_covered = (covers_means page (page.base + (phys - page.phys))).1 (omega arith, omega (arith, within))

@@ -1,5 +1,5 @@
 -- The moments from which a touch may be answered, as they are looked for. No public clause cites this file.
-use Rattle.std.specs.Prelude.{◌≡◌, ◌≢◌, ◌↔◌, ℕ, ◌+◌, ◌<◌, ◌≤◌, ◌⊎◌, Bool, true, false, not, length, List, All, AllPairs, Contains, IsTrue}
+use Rattle.std.specs.Prelude.{◌≡◌, ◌≢◌, ℕ, ◌+◌, ◌<◌, ◌≤◌, ◌⊎◌, Bool, true, false, not, length, List, All, AllPairs, Contains, IsTrue}
 use Rattle.vs_types.specs.Space.{Space}
 use Rattle.vs_types.specs.declared.answer.Answer.{Answer}
 use Rattle.vs_types.specs.declared.answer.Answer.TheVariants.{Mapped}

@@ -1,6 +1,5 @@
-use Rattle.std.proofs.Common.{◌≡◌, ◌<◌, Option, Some, length, refl, sym, subst}
+use Rattle.std.proofs.Common.{◌<◌, Option, length, refl, sym, subst}
 use Rattle.std.specs.Prelude.{IfSome, IsSome}
-use Rattle.nr_explain.specs.ChainEvidence.{IsLater}
 use Rattle.nr_explain.specs.declared.trace.nearby.Stretch.{Stretch}
 use Rattle.nr_explain.proofs.Missed.{later_found, later_has_call}
 use Rattle.nr_explain.proofs.chain.touches.later_update.Goals as goal

@@ -1,4 +1,3 @@
-use Rattle.std.proofs.Common.{arith}
 use Rattle.nr_explain.proofs.Missed.{none_open_before, open_found, open_has_call, open_within}
 use Rattle.nr_explain.proofs.chain.touches.open_update.Goals as goal
 
