@@ -308,34 +308,6 @@ OF_FAULT = {
     "Reachable": of_reachable,
 }
 
-# what each fault means most often (docs/RECORDING.md)
-MEANS = {
-    "ThreadOpen": "a mistake of the hook: a thread has two calls open",
-    "NoSuchCall": "a mistake of the hook: a reply to a call that wasn't made",
-    "AnsweredTwice": "a reply that is sent again, as when a request is retried whose answer was only late",
-    "NotAnUpdate": "a mistake of the hook: a read is given a place",
-    "PlacedTwice": "a mistake of the hook: a place is given twice",
-    "NotPlaced": "a reply that went out with a place which another update got",
-    "PastLog": "a mistake of the hook: a read says that it saw more than there is",
-    "Early": "a read of a replica that lags, or a stamp drawn outside of its call",
-    "WrongAnswer": "an update that was lost, a translation that was kept, or places taken in another order than the work",
-    "PrefixPastLog": "an applied count that isn't the dump's",
-    "PrefixShort": "an applied count that isn't the dump's",
-    "MissingFrame": "a table that was freed while its parent's entry stayed",
-    "SharedFrame": "a table that is linked at two entries: an alias that nobody mapped",
-    "ReservedBit": "a large page made of a frame that isn't its first: bits below its size are set",
-    "StrayFrame": "a table that was unlinked, and not freed",
-    "Differs": "tables that have other pages or rights than the calls were answered",
-    "StartMissing": "a table that was freed while its parent's entry stayed, or a start that was copied while a thread changed the tables",
-    "StartShared": "a table that is linked at two entries, on purpose or not",
-    "StartReserved": "a large page made of a frame that isn't its first, or a start that isn't the page table's",
-    "StartStray": "a table that was unlinked, and not freed",
-    "StartBeyond": "a page of memory that the processor hasn't",
-    "StartDiffers": "a start that was copied while a thread still changed the tables, or updates that weren't recorded",
-    "Stale": "an update that was answered before the TLBs were flushed",
-    "Reachable": "memory that was freed before the TLBs were flushed",
-}
-
 
 def check_events(trace, shown):
     """Raises where a call or a reply that is shown isn't the trace's."""
@@ -387,5 +359,5 @@ def evidence(trace, said):
     found.sentence = whole["sentence"]
     if trace.is_dump:
         return verdict, of_dump(trace, verdict, found)
-    found.facts += [f"Most often this is {MEANS[name]}."] if name in MEANS else []
+    found.facts.append(f"Most often this is {whole['usually']}.")
     return verdict, found

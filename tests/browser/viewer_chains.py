@@ -97,6 +97,7 @@ def check_fault(name, page, whole):
     told, shown = json.loads(embedded(page, "data")), whole["evidence"]
     check(f"{name}: the verdict", f">segment {whole['segment']}: {html.escape(whole['verdict'])}</div>" in page)
     check(f"{name}: the sentence", re.sub("`([^`]*)`", r"<code>\1</code>", html.escape(whole["sentence"])) in page)
+    check(f"{name}: what it most often is", f"<li>Most often this is {html.escape(whole['usually'])}.</li>" in page)
     is_stale, is_reached = shown["fault"] == "Stale", shown["fault"] == "Reachable" and "address" in shown
     window = [shown["call"]["event"], min(shown["first"], shown.get("known", shown["first"])), shown["last"]] if is_stale else None
     check(f"{name}: what a stale touch may see", told["window"] == window, told["window"])

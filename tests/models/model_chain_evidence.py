@@ -376,8 +376,10 @@ def explained(data):
             chain.pass_over(segment)
         except Fault as fault:
             shown, sentence, lines = chain.shown(segment, fault)
-            whole = {"segment": chain.number, "verdict": str(fault), "sentence": sentence, "evidence": {"fault": fault.args[0], **shown}}
-            return whole, [f"segment {chain.number}", str(fault), sentence, *lines]
+            name, usually = fault.args[0], evidence.USUALLY[fault.args[0]]
+            whole = {"segment": chain.number, "verdict": str(fault), "sentence": sentence, "usually": usually,
+                     "evidence": {"fault": name, **shown}}
+            return whole, [f"segment {chain.number}", str(fault), sentence, evidence.usual_line(name), *lines]
     verdict = f"segments {chain.number}"
     return {"verdict": verdict, "counts": chain.counts}, [verdict, *(f"{evidence.COUNTS.get(words, words)}: {count}" for words, count in chain.counts.items())]
 

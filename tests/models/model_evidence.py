@@ -13,7 +13,7 @@ import sys
 import model_auditor as model
 from model_auditor import TOUCH, Call, Reply
 from model_format import of_format
-from model_words import answer_words, request_words, sentence_of
+from model_words import USUALLY, answer_words, request_words, sentence_of, usual_line
 
 RESERVED = {2: "bits 13 to 20 are reserved in an entry that maps 2M", 3: "bits 13 to 29 are reserved in an entry that maps 1G",
             4: "bit 7 is reserved in an entry of level {}"}
@@ -362,7 +362,8 @@ def explained(data):
         shown = OF_FAULT[fault](trace, *(int(number, 0) for number in numbers))
         lines = lines_of(fault, shown, len(trace.log))
     said = sentence_of(fault, shown, data[:20])
-    return text, {"verdict": text.strip(), "sentence": said, "evidence": {"fault": fault, **shown}}, [said, *lines]
+    told = {"verdict": text.strip(), "sentence": said, "usually": USUALLY[fault], "evidence": {"fault": fault, **shown}}
+    return text, told, [said, usual_line(fault), *lines]
 
 
 def own_fault(trace, r):
@@ -389,8 +390,8 @@ def said_of_dump(trace, r, header):
     _, _, fault, *numbers = text.split()
     shown = OF_FAULT[fault](trace, *(int(number, 0) for number in numbers))
     said = sentence_of(fault, shown, header)
-    told = {"replica": r, "fault": text[3:], "sentence": said, "evidence": {"fault": fault, **shown}}
-    return told, [f"dump {r}: {text[3:]}", said, *lines_of(fault, shown, len(trace.log))]
+    told = {"replica": r, "fault": text[3:], "sentence": said, "usually": USUALLY[fault], "evidence": {"fault": fault, **shown}}
+    return told, [f"dump {r}: {text[3:]}", said, usual_line(fault), *lines_of(fault, shown, len(trace.log))]
 
 
 def other_dumps(data):

@@ -1,5 +1,7 @@
 """The words of a request and an answer, and the sentence on each fault: for model_evidence.py and model_chain_evidence.py, written from docs/man
 alone."""
+import pathlib
+
 from model_format import reason_words
 from model_units import *
 
@@ -77,3 +79,18 @@ def stands_words(shown):
     """Where a call is that is too early."""
     reads = shown["call"]["request"].split()[0] in ("resolve", "access")
     return f"was answered from {many(shown['entries'], 'entry')}" if reads else f"is at place {shown['entries']}"
+
+
+def usual_texts():
+    """What each fault most often is, by the man page: a row may be of several."""
+    page = pathlib.Path(__file__).resolve().parents[2] / "docs/man/nrvs-explain.1.md"
+    table = page.read_text().partition("| Fault | Most often |\n|---|---|\n")[2].partition("\n\n")[0]
+    rows = (row.strip("| ").split(" | ") for row in table.splitlines())
+    return {fault: text for faults, text in rows for fault in faults.split(", ")}
+
+
+USUALLY = usual_texts()
+
+
+def usual_line(fault):
+    return f"Most often this is {USUALLY[fault]}."

@@ -2,28 +2,30 @@
 use Rattle.std.specs.Prelude.{◌≡◌, ℕ, ◌++◌, Bool, true, false, List, Some, None, codes, decimal}
 use Rattle.serde_json.specs.Data.{Data, member, no_members, object, string}
 use Rattle.serde_json.specs.Written.{compact_text}
+use Rattle.nr_trace.specs.declared.fault.Fault.{Fault}
 use Rattle.nr_explain.specs.ChainExplanation.{IsExplanationOfChain}
 use Rattle.nr_explain.specs.declared.chain.evidence.SegmentEvidence.{SegmentEvidence}
 use Rattle.nr_explain.specs.declared.chain.explanation.ChainExplanation.{ChainExplanation}
 use Rattle.nr_explain.specs.declared.chain.explanation.ChainExplanation.TheVariants.{Yes, No}
 use Rattle.audit_texts.specs.Text.{fault_text, line_end}
+use Rattle.audit_texts.specs.Usual.{usual_line, usual_text}
 use Rattle.audit_texts.specs.EvidenceJson.{number_data}
 use Rattle.audit_texts.specs.ChainText.{end_lines}
 use Rattle.audit_texts.specs.ChainSentence.{segment_sentence}
 use Rattle.audit_texts.specs.ChainEvidence.{chain_counts_data, chain_counts_lines, segment_evidence_data, segment_evidence_text}
 
--- the sentence and the lines of the evidence
-abbrev pub shown_text : SegmentEvidence → List ℕ
-shown_text evidence = segment_sentence evidence ++ (line_end ++ segment_evidence_text evidence)
+-- the sentence, the line of what the fault most often is, and the lines of the evidence
+abbrev pub shown_text : Fault → SegmentEvidence → List ℕ
+shown_text fault evidence = segment_sentence evidence ++ (line_end ++ (usual_line fault ++ segment_evidence_text evidence))
 
--- the lines: how many segments are right and how much they have; or the segment with the first fault, the fault, its sentence and the
--- evidence
+-- the lines: how many segments are right and how much they have; or the segment with the first fault, the fault, its sentence, what it most
+-- often is, and the evidence
 abbrev pub chain_explanation_text : ChainExplanation → List ℕ
 chain_explanation_text (Yes counts) = end_lines counts.segments None ++ chain_counts_lines counts
-chain_explanation_text (No number fault evidence) = end_lines number (Some fault) ++ shown_text evidence
+chain_explanation_text (No number fault evidence) = end_lines number (Some fault) ++ shown_text fault evidence
 
--- the JSON object: how many segments are right and how much they have; or the segment with the first fault, the evidence, the sentence
--- and the fault
+-- the JSON object: how many segments are right and how much they have; or the segment with the first fault, the evidence, the sentence,
+-- what the fault most often is, and the fault
 abbrev pub chain_explanation_data : ChainExplanation → Data
 chain_explanation_data (Yes counts) = object
     (member (codes "counts") (chain_counts_data counts)
@@ -32,7 +34,8 @@ chain_explanation_data (No number fault evidence) = object
     (member (codes "evidence") (segment_evidence_data evidence)
     (member (codes "segment") (number_data number)
     (member (codes "sentence") (string (segment_sentence evidence))
-    (member (codes "verdict") (string (codes "no " ++ fault_text fault)) no_members))))
+    (member (codes "usually") (string (usual_text fault))
+    (member (codes "verdict") (string (codes "no " ++ fault_text fault)) no_members)))))
 
 -- the object on one line
 abbrev pub chain_explanation_json : ChainExplanation → List ℕ

@@ -3,25 +3,28 @@ use Rattle.std.specs.Prelude.{◌≡◌, ℕ, ◌++◌, Bool, true, false, List,
 use Rattle.serde_json.specs.Data.{Data, array, member, no_members, object, string}
 use Rattle.serde_json.specs.View.{items_of}
 use Rattle.serde_json.specs.Written.{compact_text}
+use Rattle.nr_trace.specs.declared.fault.Fault.{Fault}
 use Rattle.nr_explain.specs.Explanation.{IsExplanationOf}
 use Rattle.nr_explain.specs.declared.trace.evidence.Evidence.{Evidence}
 use Rattle.nr_explain.specs.declared.trace.explaining.Explanation.{Explanation}
 use Rattle.nr_explain.specs.declared.trace.explaining.Explanation.TheVariants.{Yes, No}
 use Rattle.audit_texts.specs.Text.{fault_text, line_end, no_text, yes_text}
 use Rattle.audit_texts.specs.Sentence.{sentence_text}
+use Rattle.audit_texts.specs.Usual.{usual_line, usual_text}
 use Rattle.audit_texts.specs.EvidenceJson.{number_data}
 use Rattle.audit_texts.specs.Evidence.{counts_data, counts_lines, evidence_data, evidence_text}
 
--- the sentence and the lines of the evidence
-abbrev pub shown_text : Evidence → List ℕ
-shown_text shown = sentence_text shown ++ (line_end ++ evidence_text shown)
+-- the sentence, the line of what the fault most often is, and the lines of the evidence
+abbrev pub shown_text : Fault → Evidence → List ℕ
+shown_text fault shown = sentence_text shown ++ (line_end ++ (usual_line fault ++ evidence_text shown))
 
--- the lines: those of the verdict, and for a no its sentence and the evidence, for a yes how much there is
+-- the lines: those of the verdict, and for a no its sentence, what it most often is and the evidence, for a yes how much there is
 abbrev pub explanation_text : Explanation → List ℕ
 explanation_text (Yes order counts) = yes_text order ++ counts_lines counts
-explanation_text (No fault shown) = no_text fault ++ shown_text shown
+explanation_text (No fault shown) = no_text fault ++ shown_text fault shown
 
--- the JSON object: the verdict's first line, with how much a yes has and its order, or the sentence and the evidence of a no
+-- the JSON object: the verdict's first line, with how much a yes has and its order, or the evidence of a no, its sentence and what it most
+-- often is
 abbrev pub explanation_data : Explanation → Data
 explanation_data (Yes order counts) = object
     (member (codes "counts") (counts_data counts)
@@ -30,7 +33,8 @@ explanation_data (Yes order counts) = object
 explanation_data (No fault shown) = object
     (member (codes "evidence") (evidence_data shown)
     (member (codes "sentence") (string (sentence_text shown))
-    (member (codes "verdict") (string (codes "no " ++ fault_text fault)) no_members)))
+    (member (codes "usually") (string (usual_text fault))
+    (member (codes "verdict") (string (codes "no " ++ fault_text fault)) no_members))))
 
 -- the object on one line
 abbrev pub explanation_json : Explanation → List ℕ

@@ -11,15 +11,16 @@ use Rattle.nr_explain.specs.declared.trace.all_dumps.DumpExplanation.TheVariants
 use Rattle.nr_explain.specs.declared.trace.all_dumps.FullExplanation.{FullExplanation}
 use Rattle.audit_texts.specs.Text.{fault_text, line_end}
 use Rattle.audit_texts.specs.Sentence.{sentence_text}
+use Rattle.audit_texts.specs.Usual.{usual_text}
 use Rattle.audit_texts.specs.EvidenceJson.{number_data}
 use Rattle.audit_texts.specs.Evidence.{evidence_data}
 use Rattle.audit_texts.specs.Explained.{explanation_data, explanation_status, explanation_text, shown_text}
 
--- the lines of a dump: that it has no fault; or its first, with its sentence and the evidence
+-- the lines of a dump: that it has no fault; or its first, with its sentence, what it most often is and the evidence
 unfoldable pub dump_lines : DumpExplanation → List ℕ
 dump_lines (Sound replica) = codes "dump " ++ (decimal replica ++ codes ": no fault\n")
 dump_lines (Faulty replica fault shown) =
-    codes "dump " ++ (decimal replica ++ (codes ": " ++ (fault_text fault ++ (line_end ++ shown_text shown))))
+    codes "dump " ++ (decimal replica ++ (codes ": " ++ (fault_text fault ++ (line_end ++ shown_text fault shown))))
 
 -- the lines of the explanation, and then those of the other dumps
 abbrev pub full_text : FullExplanation → List ℕ
@@ -34,7 +35,8 @@ dump_data (Faulty replica fault shown) = object
     (member (codes "evidence") (evidence_data shown)
     (member (codes "fault") (string (fault_text fault))
     (member (codes "replica") (number_data replica)
-    (member (codes "sentence") (string (sentence_text shown)) no_members))))
+    (member (codes "sentence") (string (sentence_text shown))
+    (member (codes "usually") (string (usual_text fault)) no_members)))))
 
 -- the member for the other dumps, where there are some, before others
 abbrev pub dumps_member : List DumpExplanation → Members → Members
@@ -48,7 +50,8 @@ full_data (No fault shown) dumps = object
     (dumps_member dumps
     (member (codes "evidence") (evidence_data shown)
     (member (codes "sentence") (string (sentence_text shown))
-    (member (codes "verdict") (string (codes "no " ++ fault_text fault)) no_members))))
+    (member (codes "usually") (string (usual_text fault))
+    (member (codes "verdict") (string (codes "no " ++ fault_text fault)) no_members)))))
 
 -- the object as a text
 abbrev pub full_json : FullExplanation → List ℕ

@@ -1,4 +1,5 @@
 pub mod Text
+pub mod Usual
 pub mod EvidenceText
 pub mod FieldText
 pub mod Owners

@@ -9,27 +9,32 @@ ghost use Rattle.audit_texts.specs.EvidenceJson.{number_data};
 ghost use Rattle.audit_texts.specs.Evidence.{counts_lines, evidence_data};
 ghost use Rattle.audit_texts.specs.Explained.{explanation_data, explanation_json, explanation_text};
 ghost use Rattle.audit_texts.specs.Explained.{shown_text, told_explanation};
+ghost use Rattle.audit_texts.specs.Usual.{usual_text};
 
 use crate::evidence::{counts_lines, counts_value, evidence_lines, evidence_value};
 use crate::fact_json::{Members, put_text};
 use crate::sentence::sentence_text;
-use crate::text::{no_text, no_words, yes_text};
+use crate::text::{no_text, yes_text};
+use crate::usual::{push_usual, put_usual};
 use nr_explain::{Counts, Evidence, Explanation};
 use nr_trace::Fault;
 use serde_json::{Map, Value, put};
 use std::alloc::{AllocError, Global};
 
-/// Adds the sentence of a fault and the lines of what shows it.
+/// Adds the sentence of a fault, the line of what it most often is, and the lines of what shows it.
 pub(crate) fn push_shown(
     alloc: Global,
     text: &mut String,
+    fault: Fault,
     shown: &Evidence,
 ) -> Result<(), AllocError>
-    ensures { OnOk result (string_bytes text.new ≡ string_bytes text.old ++ shown_text shown.now) }
+    ensures { OnOk result (string_bytes text.new
+        ≡ string_bytes text.old ++ shown_text fault shown.now) }
 {
     let sentence = sentence_text(alloc, shown)?;
     text.push_str(sentence.as_str())?;
     text.push_str("\n")?;
+    push_usual(text, fault)?;
     let lines = evidence_lines(alloc, shown)?;
     text.push_str(lines.as_str())
 }
@@ -43,10 +48,11 @@ fn right_text(alloc: Global, order: &[u32], counts: Counts) -> Result<String, Al
 }
 
 fn wrong_text(alloc: Global, fault: Fault, shown: &Evidence) -> Result<String, AllocError>
-    ensures { IfOk result (λ text. string_bytes text ≡ no_text fault ++ shown_text shown.now) }
+    ensures { IfOk result (λ text. string_bytes text
+        ≡ no_text fault ++ shown_text fault shown.now) }
 {
     let mut text = no_text(alloc, fault)?;
-    push_shown(alloc, &mut text, shown)?;
+    push_shown(alloc, &mut text, fault, shown)?;
     Ok(text)
 }
 
@@ -74,7 +80,7 @@ fn order_value(alloc: Global, order: &[u32]) -> Result<Value, AllocError>
     Ok(Value::Array(calls))
 }
 
-/// Puts the evidence of a fault, its sentence and the verdict.
+/// Puts the evidence of a fault, its sentence, what it most often is, and the verdict.
 pub(crate) fn put_no(
     members: &mut Members,
     alloc: Global,
@@ -83,15 +89,16 @@ pub(crate) fn put_no(
 ) -> Result<(), AllocError>
     ensures { OnOk result (members_view members.new.entries
         ≡ with_member (codes "verdict") (string (codes "no " ++ fault_text fault))
+        (with_member (codes "usually") (string (usual_text fault))
         (with_member (codes "sentence") (string (sentence_text shown.now))
-        (with_member (codes "evidence") (evidence_data shown.now) (members_view members.old.entries)))) }
+        (with_member (codes "evidence") (evidence_data shown.now)
+        (members_view members.old.entries))))) }
 {
     let evidence = evidence_value(alloc, shown)?;
     put(members, alloc, "evidence", evidence)?;
     let sentence = sentence_text(alloc, shown)?;
     put(members, alloc, "sentence", Value::String(sentence))?;
-    let verdict = no_words(alloc, fault)?;
-    put(members, alloc, "verdict", Value::String(verdict))
+    put_usual(members, alloc, fault)
 }
 
 fn put_yes(

@@ -7,9 +7,10 @@ ghost use Rattle.audit_texts.specs.FullExplained.{dump_data, dump_lines, full_da
 
 use crate::evidence::evidence_value;
 use crate::explanation::{explanation_text, explanation_value, push_shown, put_no};
-use crate::fact_json::Members;
+use crate::fact_json::{Members, put_text};
 use crate::sentence::sentence_text;
 use crate::text::fault_text;
+use crate::usual::usual_text;
 use nr_explain::{DumpExplanation, Evidence, Explanation, FullExplanation};
 use nr_trace::Fault;
 use serde_json::{Map, Value, put};
@@ -34,9 +35,9 @@ fn faulty_lines(
     ensures { IfOk result (λ text. string_bytes text
         ≡ dump_lines (DumpExplanation.Faulty replica fault shown.now)) }
 {
-    let fault = fault_text(alloc, fault)?;
-    let mut text = format!(in alloc; "dump {replica}: {fault}\n")?;
-    push_shown(alloc, &mut text, shown)?;
+    let is = fault_text(alloc, fault)?;
+    let mut text = format!(in alloc; "dump {replica}: {is}\n")?;
+    push_shown(alloc, &mut text, fault, shown)?;
     Ok(text)
 }
 
@@ -91,7 +92,8 @@ fn put_faulty(
     put(members, alloc, "fault", Value::String(is))?;
     put(members, alloc, "replica", Value::from(replica))?;
     let sentence = sentence_text(alloc, shown)?;
-    put(members, alloc, "sentence", Value::String(sentence))
+    put(members, alloc, "sentence", Value::String(sentence))?;
+    put_text(members, alloc, "usually", usual_text(fault))
 }
 
 fn put_sound(members: &mut Members, alloc: Global, replica: u8) -> Result<(), AllocError>

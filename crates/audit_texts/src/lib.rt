@@ -23,6 +23,7 @@ mod sentence;
 mod shared;
 mod text;
 mod units;
+mod usual;
 
 pub use answer::{answer_text, push_answer};
 pub use audit_json::{named_verdict, told_verdict};

@@ -1,9 +1,7 @@
 //! What is printed of the explanation of a chain, as lines and as JSON.
 
-ghost use Rattle.std.specs.Prelude.{◌≡◌, ◌++◌, IfOk, OnOk, codes, string_bytes};
-ghost use Rattle.serde_json.specs.Data.{object, put as with_member, string};
-ghost use Rattle.serde_json.specs.View.{members_view, view};
-ghost use Rattle.audit_texts.specs.Text.{fault_text};
+ghost use Rattle.std.specs.Prelude.{◌≡◌, ◌++◌, IfOk, OnOk, string_bytes};
+ghost use Rattle.serde_json.specs.View.{view};
 ghost use Rattle.audit_texts.specs.ChainText.{end_lines};
 ghost use Rattle.audit_texts.specs.ChainExplained.{chain_explanation_data, chain_explanation_json};
 ghost use Rattle.audit_texts.specs.ChainExplained.{chain_explanation_text, shown_text, told_chain};
@@ -12,8 +10,7 @@ use crate::chain::counts::{chain_counts_lines, chain_counts_value};
 use crate::chain::evidence::{segment_evidence_text, segment_evidence_value};
 use crate::chain::sentence::segment_sentence;
 use crate::chain::text::end_lines;
-use crate::fact_json::Members;
-use crate::text::fault_text;
+use crate::usual::{push_usual, put_usual};
 use nr_explain::{ChainCounts, ChainExplanation, SegmentEvidence};
 use nr_trace::Fault;
 use serde_json::{Map, Value, put};
@@ -28,13 +25,20 @@ fn right_text(alloc: Global, counts: ChainCounts) -> Result<String, AllocError>
     format!(in alloc; "segments {segments}\n{lines}")
 }
 
-/// Adds the sentence of a fault and the lines of what shows it.
-fn push_shown(alloc: Global, text: &mut String, shown: &SegmentEvidence) -> Result<(), AllocError>
-    ensures { OnOk result (string_bytes text.new ≡ string_bytes text.old ++ shown_text shown.now) }
+/// Adds the sentence of a fault, the line of what it most often is, and the lines of what shows it.
+fn push_shown(
+    alloc: Global,
+    text: &mut String,
+    fault: Fault,
+    shown: &SegmentEvidence,
+) -> Result<(), AllocError>
+    ensures { OnOk result (string_bytes text.new
+        ≡ string_bytes text.old ++ shown_text fault shown.now) }
 {
     let sentence = segment_sentence(alloc, shown)?;
     text.push_str(sentence.as_str())?;
     text.push_str("\n")?;
+    push_usual(text, fault)?;
     let lines = segment_evidence_text(alloc, shown)?;
     text.push_str(lines.as_str())
 }
@@ -49,7 +53,7 @@ fn wrong_text(
         ≡ chain_explanation_text (ChainExplanation.No number fault shown.now)) }
 {
     let mut text = end_lines(alloc, number, Some(fault))?;
-    push_shown(alloc, &mut text, shown)?;
+    push_shown(alloc, &mut text, fault, shown)?;
     Ok(text)
 }
 
@@ -79,17 +83,6 @@ fn right_value(alloc: Global, counts: ChainCounts) -> Result<Value, AllocError>
     Ok(Value::Object(members))
 }
 
-/// Puts the line of a fault.
-fn put_fault(members: &mut Members, alloc: Global, fault: Fault) -> Result<(), AllocError>
-    ensures { OnOk result (members_view members.new.entries
-        ≡ with_member (codes "verdict") (string (codes "no " ++ fault_text fault))
-        (members_view members.old.entries)) }
-{
-    let name = fault_text(alloc, fault)?;
-    let verdict = format!(in alloc; "no {name}")?;
-    put(members, alloc, "verdict", Value::String(verdict))
-}
-
 fn wrong_value(
     alloc: Global,
     number: u64,
@@ -105,7 +98,7 @@ fn wrong_value(
     put(&mut members, alloc, "segment", Value::from(number))?;
     let sentence = segment_sentence(alloc, shown)?;
     put(&mut members, alloc, "sentence", Value::String(sentence))?;
-    put_fault(&mut members, alloc, fault)?;
+    put_usual(&mut members, alloc, fault)?;
     Ok(Value::Object(members))
 }
 
