@@ -199,3 +199,25 @@ $trace: \"400123\" doesn't begin with 0x" "$program" resolve --address 400123 "$
   complains "explain of two files" "$program" explain "$trace" "$trace"
   complains "a file for a run" "$program" run "$trace"
 }
+
+# several files as tests: a plan, and a line for each, whatever comes of it; by both programs
+tests_of_files() {
+  local each stale=examples/stale_read.trace other broken
+  printf 'TAP version 13\n1..4\nok 1 - %s: yes\nnot ok 2 - %s: no 9 Early 3\nnot ok 3 - %s: cannot read\nok 4 - -: yes\n' \
+    "$trace" "$stale" "$work/none" >"$work/lines"
+  printf '%s: %s\n' "$work/none" "$no_file" >"$work/wanted"
+  for each in "$program" "$alone"; do
+    says "four files as tests, by $each" 2 "$work/lines" "$work/wanted" "$trace" "$each" audit --tap "$trace" "$stale" "$work/none" -
+  done
+  printf 'TAP version 13\n1..1\nok 1 - %s: yes\n' "$trace" >"$work/lines"
+  answers "one file as a test" 0 "$work/lines" /dev/null "$program" audit "$trace" --tap
+  printf 'TAP version 13\n1..2\nnot ok 1 - %s: no 9 Early 3\nok 2 - %s: yes\n' "$stale" "$trace" >"$work/lines"
+  answers "two files as tests, the first of which is wrong" 1 "$work/lines" /dev/null "$program" audit --tap "$stale" "$trace"
+  tells "tests into a full device" 2 "cannot write" sh -c "'$program' audit --tap '$trace' >/dev/full"
+  broken="$(printf 'a\nok 2')"
+  for other in --json --chain --quiet --progress '--least-overlap 3'; do
+    complains "tests with $other" "$program" audit --tap $other "$trace"
+  done
+  complains "a test with a name of two lines" "$program" audit --tap "$trace" "$broken"
+  complains "tests of no file" "$program" audit --tap
+}

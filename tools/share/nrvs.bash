@@ -10,7 +10,7 @@ _nrvs() {
     return
   fi
   case ${COMP_WORDS[1]} in
-    audit) options='--json --chain --quiet --progress --least-overlap' ;;
+    audit) options='--json --chain --quiet --progress --least-overlap --tap' ;;
     explain) options='--json --all --chain' ;;
     resolve) options='--address --replica --steps' ;;
     pages) options='--replica --ranges --chain --start --end' ;;

@@ -14,6 +14,7 @@ complete -c nrvs -n '__fish_seen_subcommand_from audit' -l json -d 'Prints JSON 
 complete -c nrvs -n '__fish_seen_subcommand_from audit' -l quiet -d 'Prints nothing of right segments'
 complete -c nrvs -n '__fish_seen_subcommand_from audit' -l progress -d 'Shows how far a chain has come'
 complete -c nrvs -n '__fish_seen_subcommand_from audit' -l least-overlap -x -d 'How many calls are to overlap'
+complete -c nrvs -n '__fish_seen_subcommand_from audit' -l tap -d 'Prints a test for each file'
 complete -c nrvs -n '__fish_seen_subcommand_from explain' -l json -d 'Prints one JSON object'
 complete -c nrvs -n '__fish_seen_subcommand_from explain' -l all -d 'Prints what is wrong with each other dump'
 complete -c nrvs -n '__fish_seen_subcommand_from resolve' -l address -x -d 'A canonical address'

@@ -2,6 +2,7 @@
 use Rattle.std.proofs.Common.{◌≡◌, ◌∙◌, ◌≤◌, ◌⊎◌, ◌||◌, map, ℕ, Bool, true, false, List, [], ◌∷◌, Option, Some, None, Result, Ok, Err, ap, ap₂, inl}
 use Rattle.std.proofs.Common.{arith, inr, sym, refl, subst, codes, option_map, unwrap_or}
 use Rattle.std.proofs.Common.{Bor, Box, IfErr, IfOk}
+use Rattle.std.specs.Prelude.{MatchBool}
 use Rattle.std.specs.Result.{IsErrAnd}
 use Rattle.std.specs.Box.{box_value}
 use Rattle.std.specs.Str.Parse.{ParsesUnsigned}
@@ -16,9 +17,10 @@ use Rattle.clap.specs.declared.error.kind.ErrorKind.TheVariants.{OutOfMemory}
 use Rattle.clap.specs.declared.parser.matches.SubCommand.{SubCommand}
 use Rattle.clap.specs.declared.parser.matches.ArgMatches.TheViews.{out-SubCommand}
 use Rattle.audit_texts.specs.declared.chain.style.Style.{Style}
-use Rattle.audit_commands.specs.Words.{AsksAudit, AsksTraces, HasSeveralFiles, IsFlag, IsLocal, IsMisuse, IsMisused, IsNumberOf, IsPagesMisuse, IsLeast}
+use Rattle.audit_commands.specs.Words.{AsksAudit, AsksTraces, HasNoOtherOption, HasOtherOption, HasSeveralFiles, IsAuditMisuse, IsFlag}
+use Rattle.audit_commands.specs.Words.{IsLeast, IsLocal, IsMisuse, IsMisused, IsNumberOf, IsPagesMisuse, IsTestsMisuse}
 use Rattle.audit_commands.specs.declared.inspection.Inspection.{Inspection}
-use Rattle.audit_commands.specs.declared.inspection.Inspection.TheVariants.{One, Each}
+use Rattle.audit_commands.specs.declared.inspection.Inspection.TheVariants.{One, Each, Tests}
 use Rattle.audit_commands.specs.declared.task.Task.{Task}
 use Rattle.audit_commands.specs.declared.task.Task.TheVariants.{Audit, Explain, Resolve, Pages, AuditChain, ExplainChain, PagesOfChain}
 
@@ -76,7 +78,7 @@ of_clap (Err e) kinds P h = inl h
 
 -- one of `audit`
 pub of_audit : (e : Error) (kinds : Kinds) (sub : Option (Text × List Row)) (rows : List Row) → sub ≡ Some (codes "audit", rows)
-    → (kind_of e ≡ OutOfMemory) ⊎ IsMisuse rows (kind_of e) → HasKind kinds e ⊎ IsMisused sub (kind_of e)
+    → (kind_of e ≡ OutOfMemory) ⊎ IsAuditMisuse rows (kind_of e) → HasKind kinds e ⊎ IsMisused sub (kind_of e)
 of_audit e kinds sub rows is (inl memory) = inl (inl memory)
 of_audit e kinds sub rows is (inr misuse) = inr (subst (λ s. IsMisused s (kind_of e)) (sym is) (inl (refl, misuse)))
 
@@ -133,6 +135,7 @@ asks_traces rows (One (AuditChain style watched least) input) chain quiet still 
 asks_traces rows (One (ExplainChain as_json) input) chain quiet still asks = absurd asks
 asks_traces rows (One (PagesOfChain point as_ranges) input) chain quiet still asks = absurd asks
 asks_traces rows (Each as_json names) chain quiet still asks = (chain, quiet, still, asks)
+asks_traces rows (Tests names) chain quiet still asks = absurd asks
 
 -- of one chain
 pub asks_chain : (rows : List Row) (task : Task) (input : Option (Bor (List ℕ))) (style : Style) (watched : Bool) (least : ℕ)
@@ -153,3 +156,25 @@ pub several_files : (rows : List Row) (asked : Inspection) → AsksTraces rows a
 several_files rows (One task input) asks none = absurd (none task input refl)
 several_files rows (Each as_json names) asks none =
     (map (λ name. name.now) names.items, asks.2, subst (λ (n : ℕ). 2 ≤ n) (sym (length-map names.items (λ (name : Bor (List ℕ)). name.now))) asks.3)
+several_files rows (Tests names) asks none = absurd asks
+
+-- an option was given with which no file is a test, or none was
+pub other_option : (rows : List Row) (json chain quiet progress : Bool) → IsFlag (one_of (codes "json") rows) json
+    → IsFlag (one_of (codes "chain") rows) chain → IsFlag (one_of (codes "quiet") rows) quiet → IsFlag (one_of (codes "progress") rows) progress
+    → IsLeast rows 0 → MatchBool (json || chain || quiet || progress) (HasOtherOption rows) (HasNoOtherOption rows)
+other_option rows true chain quiet progress j c q p none = inl j
+other_option rows false true quiet progress j c q p none = inr (inl c)
+other_option rows false false true progress j c q p none = inr (inr (inl q))
+other_option rows false false false true j c q p none = inr (inr (inr (inl p)))
+other_option rows false false false false j c q p none = (j, c, q, p, none)
+
+-- a misuse of tests, and of what isn't tests
+pub misuse_of_tests : (rows : List Row) (fault : ErrorKind) → IsFlag (one_of (codes "tap") rows) true → (fault ≡ OutOfMemory) ⊎ IsTestsMisuse rows fault
+    → (fault ≡ OutOfMemory) ⊎ IsAuditMisuse rows fault
+misuse_of_tests rows fault tap (inl memory) = inl memory
+misuse_of_tests rows fault tap (inr misuse) = inr (inr (tap, misuse))
+
+pub misuse_of_others : (rows : List Row) (fault : ErrorKind) → IsFlag (one_of (codes "tap") rows) false → (fault ≡ OutOfMemory) ⊎ IsMisuse rows fault
+    → (fault ≡ OutOfMemory) ⊎ IsAuditMisuse rows fault
+misuse_of_others rows fault tap (inl memory) = inl memory
+misuse_of_others rows fault tap (inr misuse) = inr (inl (tap, misuse))

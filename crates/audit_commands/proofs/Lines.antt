@@ -15,7 +15,7 @@ use Rattle.audit_commands.specs.Tasks.{AuditsEach, AuditsOne, FileLine, IsFileLi
 max_in_turn : (a b c : ℕ) → max a (max b c) ≡ max (max a b) c
 max_in_turn a b c = omega arith
 
-worst-append : (statuses : List ℕ) (status : ℕ) → worst (statuses ++ status ∷ []) ≡ max (worst statuses) status
+pub worst-append : (statuses : List ℕ) (status : ℕ) → worst (statuses ++ status ∷ []) ≡ max (worst statuses) status
 worst-append [] status = max-zero status ∙ sym (zero-max status)
 worst-append (first ∷ rest) status = ap (λ n. max first n) (worst-append rest status) ∙ max_in_turn first (worst rest) status
 

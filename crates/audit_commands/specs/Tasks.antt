@@ -1,6 +1,7 @@
 -- What an inspection of one input answers, and of several files, and what the program does with what its words ask for.
-use Rattle.std.specs.Prelude.{◌≡◌, ◌≢◌, ◌⊎◌, ◌-◌, ◌^◌, ℕ, Bool, true, false, List, [], ◌∷◌, Option, Some, None, Result, Ok, Err, IfErr, IfOk, MatchResult, map, max, ⊤}
-use Rattle.std.specs.List.{All, concat}
+use Rattle.std.specs.Prelude.{◌≡◌, ◌≢◌, ◌⊎◌, ◌-◌, ◌^◌, ◌++◌, ℕ, Bool, true, false, List, [], ◌∷◌, Option, Some, None, Result, Ok, Err, IfErr, IfOk}
+use Rattle.std.specs.Prelude.{MatchResult, codes, decimal, length, map, max, ⊤}
+use Rattle.std.specs.List.{All, concat, enumerate_from, flat_map}
 use Rattle.std.specs.Borrow.{Bor}
 use Rattle.std.specs.Io.KnownBytes.{Appends}
 use Rattle.clap.specs.Words.{kind_of}
@@ -10,7 +11,8 @@ use Rattle.clap.specs.declared.error.kind.ErrorKind.TheVariants as kind
 use Rattle.audit_readers.specs.Answers.{HasReadFew, IsAudit, IsNamedAudit, IsReadOf, IsResolve, WritesReport}
 use Rattle.audit_texts.specs.Explained.{IsExplained}
 use Rattle.audit_texts.specs.FullExplained.{IsFullyExplained}
-use Rattle.audit_readers.specs.Refusals.{IsEndFault, IsResolveFault, WritesAnswersAlone, exit_status, refusal_status}
+use Rattle.audit_readers.specs.Refusals.{IsEndFault, IsResolveFault, WritesAnswersAlone, exit_status, refusal_line, refusal_status}
+use Rattle.audit_texts.specs.Text.{line_end}
 use Rattle.audit_readers.specs.declared.fault.ProgFault.{ProgFault}
 use Rattle.audit_readers.specs.ChainAudit.{HasReadFewOfChain, HasWrittenFirst, IsChainAudit}
 use Rattle.audit_readers.specs.ChainPages.{HasReadFewOfStart, IsChainEnd, IsChainStart}
@@ -19,7 +21,7 @@ use Rattle.audit_texts.specs.declared.chain.style.Style.{Style}
 use Rattle.audit_readers.specs.declared.fault.ProgFault.TheVariants.{CannotRead, CannotWrite, Memory}
 use Rattle.audit_readers.specs.PagesAnswers.{IsPages, IsPagesFault}
 use Rattle.audit_commands.specs.declared.inspection.Inspection.{Inspection}
-use Rattle.audit_commands.specs.declared.inspection.Inspection.TheVariants.{One, Each}
+use Rattle.audit_commands.specs.declared.inspection.Inspection.TheVariants.{One, Each, Tests}
 use Rattle.audit_commands.specs.declared.task.ChainPoint.TheVariants.{Start, End}
 use Rattle.audit_commands.specs.declared.task.Task.{Task}
 use Rattle.audit_commands.specs.declared.task.Task.TheVariants.{Audit, Explain, Resolve, Pages, AuditChain, ExplainChain, PagesOfChain}
@@ -82,6 +84,12 @@ abbrev pub bytes_of : (List ℕ → Option (List ℕ)) → Option (List ℕ) →
 bytes_of file_bytes None = None
 bytes_of file_bytes (Some name) = file_bytes name
 
+-- a text is the line of the verdict on an input, with this name
+pub record IsVerdictOn (known : Option (List ℕ)) (name text : List ℕ) (status : ℕ) : Type 0 where
+  pub input : List ℕ
+  pub is_read : IsReadOf known input
+  pub is_audit : IsNamedAudit false name input text status
+
 -- a text is the line of the verdict on the bytes of the file of this name
 pub record IsVerdictLine (as_json : Bool) (file_bytes : List ℕ → Option (List ℕ)) (name text : List ℕ) (status : ℕ) : Type 0 where
   pub input : List ℕ
@@ -120,6 +128,64 @@ pub record AuditsEach (as_json : Bool) (file_bytes : List ℕ → Option (List �
   pub written : Appends old new (concat (map (λ (line : FileLine). line.text) lines))
   pub status_is : status ≡ worst (map (λ (line : FileLine). line.status) lines)
 
+-- the version of the protocol, and how many tests come
+abbrev pub plan_lines : ℕ → List ℕ
+plan_lines count = codes "TAP version 13\n1.." ++ (decimal count ++ line_end)
+
+-- whether a test passed, by the status of its file
+unfoldable pub passed_words : ℕ → List ℕ
+passed_words 0 = codes "ok "
+passed_words _ = codes "not ok "
+
+-- the beginning of a test's line, before the words on the file: whether the test passed, and its number
+abbrev pub test_head : ℕ → ℕ → List ℕ
+test_head number status = passed_words status ++ (decimal number ++ codes " - ")
+
+-- the line of a test
+abbrev pub test_line : ℕ × FileLine → List ℕ
+test_line (number, line) = test_head number line.status ++ line.text
+
+-- the lines of all tests, the first of which is test 1
+abbrev pub test_lines : List FileLine → List ℕ
+test_lines lines = flat_map test_line (enumerate_from 1 lines)
+
+-- the words on a file that has no verdict: its name, and why
+abbrev pub refused_words : List ℕ → ProgFault → List ℕ
+refused_words name fault = name ++ (codes ": " ++ refusal_line fault)
+
+-- the words on a file are the line of its verdict, or say why there is none
+abbrev pub IsTest : (List ℕ → Option (List ℕ)) → FileLine → Type 0
+IsTest file_bytes line = IsVerdictLine false file_bytes line.name line.text line.status
+    ⊎ ((fault : ProgFault) × (line.text ≡ refused_words line.name fault) × (line.status ≡ refusal_status fault))
+
+-- a text is the tests of these files, in their order; the status is the worst of theirs
+pub record AreTests (file_bytes : List ℕ → Option (List ℕ)) (names : List (List ℕ)) (text : List ℕ) (status : ℕ) : Type 0 where
+  pub lines : List FileLine
+  pub names_are : map (λ (line : FileLine). line.name) lines ≡ names
+  pub each : All (IsTest file_bytes) lines
+  pub text_is : text ≡ test_lines lines
+  pub status_is : status ≡ worst (map (λ (line : FileLine). line.status) lines)
+
+-- they were written, and nothing else
+pub record WritesTests (file_bytes : List ℕ → Option (List ℕ)) (names : List (List ℕ)) (old new : Option (List ℕ)) (status : ℕ) : Type 0 where
+  pub text : List ℕ
+  pub are_tests : AreTests file_bytes names text status
+  pub written : Appends old new text
+
+-- the test of this number was written, and nothing else
+pub record WritesTest (file_bytes : List ℕ → Option (List ℕ)) (number : ℕ) (name : List ℕ) (old new : Option (List ℕ)) (status : ℕ) : Type 0 where
+  pub line : FileLine
+  pub name_is : line.name ≡ name
+  pub is_test : IsTest file_bytes line
+  pub written : Appends old new (test_line (number, line))
+  pub status_is : status ≡ line.status
+
+-- how many there are was written, then the tests, and nothing else
+pub record AuditsTests (file_bytes : List ℕ → Option (List ℕ)) (names : List (List ℕ)) (old new : Option (List ℕ)) (status : ℕ) : Type 0 where
+  pub text : List ℕ
+  pub are_tests : AreTests file_bytes names text status
+  pub written : Appends old new (plan_lines (length names) ++ text)
+
 -- the inspection was made: of files with these bytes, and of this standard input, where they are specified
 abbrev pub RunsInspection : {W : Type 0} → (List ℕ → Option (List ℕ)) → Inspection → Option (List ℕ) → (W
     → Option (List ℕ)) → W → W → Result ℕ ProgFault → Type 0
@@ -128,6 +194,9 @@ RunsInspection file_bytes (One task (Some name)) known contents old new outcome 
     RunsTaskOnFile task (file_bytes name.now) contents old new outcome
 RunsInspection file_bytes (Each as_json names) known contents old new outcome =
     MatchResult outcome (AuditsEach as_json file_bytes (map (λ (name : Bor (List ℕ)). name.now) names.items) (contents old) (contents new))
+    (λ fault. fault ≡ CannotWrite)
+RunsInspection file_bytes (Tests names) known contents old new outcome =
+    MatchResult outcome (AuditsTests file_bytes (map (λ (name : Bor (List ℕ)). name.now) names.items) (contents old) (contents new))
     (λ fault. fault ≡ CannotWrite)
 
 -- help or the version was asked for, which go to the output

@@ -1,6 +1,7 @@
 -- The words of the commands `audit`, `explain`, `resolve` and `pages`, as clap's definitions read words, and what they ask for.
-use Rattle.std.specs.Prelude.{◌≡◌, ◌<◌, ◌≤◌, ◌⊎◌, ℕ, Bool, true, false, List, [], ◌∷◌, Option, Some, None, IfSome, Ok, Err, codes, length, map, pos}
+use Rattle.std.specs.Prelude.{◌≡◌, ◌≢◌, ◌<◌, ◌≤◌, ◌⊎◌, ℕ, Bool, true, false, List, [], ◌∷◌, Option, Some, None, IfSome, Ok, Err, codes, length, map, pos}
 use Rattle.std.specs.Prelude.{unwrap_or, option_map, if◌then◌else◌}
+use Rattle.std.specs.List.{All}
 use Rattle.std.specs.Borrow.{Bor}
 use Rattle.std.specs.Str.{bytes_eq}
 use Rattle.std.specs.Str.Parse.{ParsesUnsigned}
@@ -13,7 +14,7 @@ use Rattle.clap.specs.declared.builder.action.ArgAction.TheVariants.{Append, Set
 use Rattle.clap.specs.declared.error.kind.ErrorKind.{ErrorKind}
 use Rattle.clap.specs.declared.error.kind.ErrorKind.TheVariants as kind
 use Rattle.audit_commands.specs.declared.inspection.Inspection.{Inspection}
-use Rattle.audit_commands.specs.declared.inspection.Inspection.TheVariants.{One, Each}
+use Rattle.audit_commands.specs.declared.inspection.Inspection.TheVariants.{One, Each, Tests}
 use Rattle.audit_commands.specs.declared.task.ChainPoint.{ChainPoint}
 use Rattle.audit_commands.specs.declared.task.ChainPoint.TheVariants.{Start, End}
 use Rattle.audit_commands.specs.declared.task.Task.TheVariants.{Audit, Explain, Resolve, Pages, AuditChain, ExplainChain, PagesOfChain}
@@ -81,8 +82,8 @@ steps_option = record (new_rule (codes "steps")) { long = Some (codes "steps"); 
 -- the command `audit`, with its options and files
 abbrev pub audit_app : App
 audit_app =
-    with_rule (with_rule (with_rule (with_rule (with_rule (with_rule (new_app (codes "audit")) json_option) chain_option) quiet_option)
-    (flag_option (codes "progress"))) least_option) files_argument
+    with_rule (with_rule (with_rule (with_rule (with_rule (with_rule (with_rule (new_app (codes "audit")) json_option) chain_option) quiet_option)
+    (flag_option (codes "progress"))) least_option) (flag_option (codes "tap"))) files_argument
 
 -- the command `explain`, with its options and file
 abbrev pub explain_app : App
@@ -139,6 +140,10 @@ IsLeast rows least = IsNumberOf 32 (one_of (codes "least-overlap") rows) least
 abbrev pub AsksOverlap : List Row → Type 0
 AsksOverlap rows = (least : ℕ) × IsLeast rows least × (0 < least)
 
+-- a test may have this name: a line break would end its line, and a # could begin a directive
+abbrev pub IsPlain : Text → Type 0
+IsPlain name = All (λ byte. (byte ≢ 10) × (byte ≢ 35)) name
+
 -- no more than one file was named, and this is the input
 abbrev pub HasOneInput : List Row → Option (Bor Text) → Type 0
 HasOneInput rows input = IfSome (all_of (codes "file") rows) (λ names. length names ≤ 1)
@@ -170,6 +175,39 @@ IsMisuse rows kind.TooManyValues = (IsFlag (one_of (codes "chain") rows) true �
 IsMisuse rows kind.MissingRequiredArgument = IsFlag (one_of (codes "chain") rows) false
     × (IsFlag (one_of (codes "quiet") rows) true ⊎ IsFlag (one_of (codes "progress") rows) true)
 IsMisuse rows _ = ⊥
+
+-- an option was given with which no file is a test
+abbrev pub HasOtherOption : List Row → Type 0
+HasOtherOption rows = IsFlag (one_of (codes "json") rows) true ⊎ IsFlag (one_of (codes "chain") rows) true
+    ⊎ IsFlag (one_of (codes "quiet") rows) true ⊎ IsFlag (one_of (codes "progress") rows) true ⊎ AsksOverlap rows
+
+-- none was
+abbrev pub HasNoOtherOption : List Row → Type 0
+HasNoOtherOption rows = IsFlag (one_of (codes "json") rows) false × IsFlag (one_of (codes "chain") rows) false
+    × IsFlag (one_of (codes "quiet") rows) false × IsFlag (one_of (codes "progress") rows) false × IsLeast rows 0
+
+-- with --tap, for a test of each file that is named, and with no other option
+abbrev pub AsksTests : List Row → Inspection → Type 0
+AsksTests rows (Tests names) = HasNoOtherOption rows × (all_of (codes "file") rows ≡ Some (map (λ name. name.now) names.items))
+    × All IsPlain (map (λ name. name.now) names.items)
+AsksTests rows _ = ⊥
+
+-- --tap is misused, though clap has nothing against it: there is another option, no file is named, or one has a name that no test can have
+abbrev pub IsTestsMisuse : List Row → ErrorKind → Type 0
+IsTestsMisuse rows kind.ArgumentConflict = HasOtherOption rows
+IsTestsMisuse rows kind.MissingRequiredArgument = all_of (codes "file") rows ≡ None
+IsTestsMisuse rows kind.ValueValidation = (names : List Text) × (all_of (codes "file") rows ≡ Some names)
+IsTestsMisuse rows _ = ⊥
+
+-- what was given with `audit` asks for this, as tests or not
+abbrev pub AsksAudits : List Row → Inspection → Type 0
+AsksAudits rows inspection = (IsFlag (one_of (codes "tap") rows) false × AsksAudit rows inspection)
+    ⊎ (IsFlag (one_of (codes "tap") rows) true × AsksTests rows inspection)
+
+-- it is misused, as tests or not
+abbrev pub IsAuditMisuse : List Row → ErrorKind → Type 0
+IsAuditMisuse rows fault = (IsFlag (one_of (codes "tap") rows) false × IsMisuse rows fault)
+    ⊎ (IsFlag (one_of (codes "tap") rows) true × IsTestsMisuse rows fault)
 
 -- with `explain`: with --chain for an explanation of one chain, and --all says nothing then
 abbrev pub AsksExplain : List Row → Inspection → Type 0
@@ -223,11 +261,11 @@ IsPagesMisuse rows fault =
 -- so a subcommand is with what was given with it
 abbrev pub IsMisused : Option (Text × List Row) → ErrorKind → Type 0
 IsMisused None fault = ⊥
-IsMisused (Some given) fault = ((given.0 ≡ codes "audit") × IsMisuse given.1 fault) ⊎ ((given.0 ≡ codes "pages") × IsPagesMisuse given.1 fault)
+IsMisused (Some given) fault = ((given.0 ≡ codes "audit") × IsAuditMisuse given.1 fault) ⊎ ((given.0 ≡ codes "pages") × IsPagesMisuse given.1 fault)
 
 -- a subcommand and what was given with it ask for an inspection
 abbrev pub AsksInspection : Text × List Row → Inspection → Type 0
-AsksInspection given inspection = ((given.0 ≡ codes "audit") × AsksAudit given.1 inspection)
+AsksInspection given inspection = ((given.0 ≡ codes "audit") × AsksAudits given.1 inspection)
     ⊎ ((given.0 ≡ codes "explain") × AsksExplain given.1 inspection) ⊎ ((given.0 ≡ codes "resolve") × AsksResolve given.1 inspection)
     ⊎ ((given.0 ≡ codes "pages") × AsksPages given.1 inspection)
 

@@ -1,9 +1,11 @@
 //! What the words of `audit`, `explain`, `resolve` and `pages` ask for.
 
-ghost use Rattle.std.specs.Prelude.{◌≡◌, ◌⊎◌, ◌∷◌, [], IfErr, IfOk, IsSomeAnd, codes, false, option_map, true};
+ghost use Rattle.std.specs.Prelude.{◌≡◌, ◌⊎◌, ◌∷◌, [], IfErr, IfOk, IsSomeAnd, MatchBool, codes, false, map, option_map, true};
+ghost use Rattle.std.specs.List.{All};
 ghost use Rattle.clap.specs.Walk.{one_of};
 ghost use Rattle.clap.specs.Words.{first_of, found_of, kind_of, rows_of, subcommand_rows_of, HasKind};
-ghost use Rattle.audit_commands.specs.Words.{AsksAudit, AsksExplain, AsksInspection, AsksPages, AsksResolve, AsksTraces};
+ghost use Rattle.audit_commands.specs.Words.{AsksAudit, AsksAudits, AsksExplain, AsksInspection, AsksPages, AsksResolve, AsksTests, AsksTraces};
+ghost use Rattle.audit_commands.specs.Words.{HasNoOtherOption, HasOtherOption, IsAuditMisuse, IsPlain, IsTestsMisuse};
 ghost use Rattle.audit_commands.specs.Words.{IsFlag, IsLeast, IsMisuse, IsMisused, IsPagesMisuse, IsPoint, IsPointMisuse};
 ghost use Rattle.audit_commands.specs.Words.{input_of, named_file};
 
@@ -20,6 +22,8 @@ pub enum Inspection<'a> {
     One(Task<'a>, Option<&'a str>),
     /// An audit of each of these files, a line each, and whether as JSON; `-` is standard input.
     Each(bool, Vec<&'a str>),
+    /// A test of each of these files; `-` is standard input.
+    Tests(Vec<&'a str>),
 }
 
 /// The file of this name, or none where it is `-`, which is standard input.
@@ -145,6 +149,110 @@ fn read_audit<'a>(
     Ok(asked)
 }
 
+/// Whether a test may have this name: it has no line break, and no `#`, which could begin a directive.
+fn is_plain(name: &str) -> bool
+    ensures { result ≡ true → IsPlain name.now }
+{
+    for byte in name.as_bytes() {
+        if matches!(*byte, b'#' | b'\n') {
+            return false;
+        }
+    }
+    true
+}
+
+/// Whether tests may have these names.
+fn are_plain(names: &[&str]) -> bool
+    ensures { result ≡ true → All IsPlain (map (λ name. name.now) names.now) }
+{
+    for name in names {
+        if !is_plain(*name) {
+            return false;
+        }
+    }
+    true
+}
+
+/// Whether an option was given with which no file is a test.
+fn has_other_option(given: &ArgMatches<'_>) -> bool
+    ensures { MatchBool result (HasOtherOption (rows_of (found_of given.now)))
+        (HasNoOtherOption (rows_of (found_of given.now))) }
+{
+    let least = read_least(given);
+    if least > 0 {
+        return true;
+    }
+    let json = is_given(given, "json");
+    let chain = is_given(given, "chain");
+    let quiet = is_given(given, "quiet");
+    let progress = is_given(given, "progress");
+    json || chain || quiet || progress
+}
+
+/// What was given with `audit` and `--tap` asks for.
+///
+/// # Errors
+///
+/// `ArgumentConflict` if there is another option, `MissingRequiredArgument` if no file is named, `ValueValidation` if one has a name that
+/// no test can have; out of memory.
+fn read_tests<'a>(
+    alloc: Global,
+    line: &mut Command<'a>,
+    given: &ArgMatches<'a>,
+) -> Result<Inspection<'a>, Error>
+    ensures asks { IfOk result (AsksTests (rows_of (found_of given.now))) }
+    ensures misused { IfErr result (λ error. (kind_of error ≡ ErrorKind.OutOfMemory)
+        ⊎ IsTestsMisuse (rows_of (found_of given.now)) (kind_of error)) }
+{
+    let other = has_other_option(given);
+    if other {
+        let conflict = line.error(ErrorKind::ArgumentConflict, "--tap takes no other option")?;
+        return Err(conflict);
+    }
+    match given.get_raw("file") {
+        Some(names) => {
+            let plain = are_plain(names);
+            if plain {
+                let names = Vec::from_slice(alloc, names)?;
+                return Ok(Inspection::Tests(names));
+            }
+            let unfit = line.error(
+                ErrorKind::ValueValidation,
+                "--tap takes no name with # or a line break",
+            )?;
+            Err(unfit)
+        }
+        None => {
+            let none = line.error(
+                ErrorKind::MissingRequiredArgument,
+                "--tap takes the names of files",
+            )?;
+            Err(none)
+        }
+    }
+}
+
+/// What was given with `audit` asks for, as tests or not. The line is that of the program, for what it says of its words.
+///
+/// # Errors
+///
+/// Those of `read_audit` and of `read_tests`.
+fn read_audits<'a>(
+    alloc: Global,
+    line: &mut Command<'a>,
+    given: &ArgMatches<'a>,
+) -> Result<Inspection<'a>, Error>
+    ensures asks { IfOk result (AsksAudits (rows_of (found_of given.now))) }
+    ensures misused { IfErr result (λ error. (kind_of error ≡ ErrorKind.OutOfMemory)
+        ⊎ IsAuditMisuse (rows_of (found_of given.now)) (kind_of error)) }
+{
+    let tap = is_given(given, "tap");
+    if tap {
+        return read_tests(alloc, line, given);
+    }
+    read_audit(alloc, line, given)
+}
+
 /// What was given with `explain` asks for.
 fn read_explain<'a>(given: &ArgMatches<'a>) -> Inspection<'a>
     ensures { AsksExplain (rows_of (found_of given.now)) result }
@@ -251,8 +359,9 @@ fn read_pages<'a>(line: &mut Command<'a>, given: &ArgMatches<'a>) -> Result<Insp
 /// # Errors
 ///
 /// `MissingSubcommand` where none of these was given, or what is wrong with what was: `TooManyValues` where several chains are named to
-/// `audit`, `ArgumentConflict` where both ends of a chain are asked of `pages`, `MissingRequiredArgument` where an option lacks the one that
-/// it is for; and out of memory.
+/// `audit`, `ArgumentConflict` where both ends of a chain are asked of `pages`, or `--tap` has another option, `MissingRequiredArgument`
+/// where an option lacks the one or the files that it is for, `ValueValidation` where a test can't have the name of a file; and out of
+/// memory.
 pub fn read_inspection<'a>(
     alloc: Global,
     line: &mut Command<'a>,
@@ -264,7 +373,7 @@ pub fn read_inspection<'a>(
         ⊎ IsMisused (subcommand_rows_of matches.now) (kind_of error)) }
 {
     match matches.subcommand() {
-        Some(("audit", given)) => read_audit(alloc, line, given),
+        Some(("audit", given)) => read_audits(alloc, line, given),
         Some(("explain", given)) => Ok(read_explain(given)),
         Some(("resolve", given)) => Ok(read_resolve(given)),
         Some(("pages", given)) => read_pages(line, given),

@@ -11,6 +11,7 @@ mod progress_line;
 mod refusal;
 mod remarks;
 mod running;
+mod tap;
 mod task;
 mod words;
 

@@ -102,7 +102,7 @@ fn tell_alone<E: Diagnostics>(
 }
 
 /// Writes a fault of a named file behind its name, and behind `cannot read` the error that the file gave, where memory for it is there.
-fn tell_named<E: Diagnostics>(
+pub(crate) fn tell_named<E: Diagnostics>(
     alloc: Global,
     fault: &ProgFault,
     name: &str,

@@ -11,6 +11,7 @@ use crate::files::FilesByName;
 use crate::inspection::Inspection;
 use crate::refusal::{refused_status, tell_outcome};
 use crate::remarks::{remark, remark_address, tell_few};
+use crate::tap::audit_tests;
 use crate::task::Task;
 use audit_readers::{Input, ProgFault, Sink, named_audit_io};
 use std::alloc::Global;
@@ -204,8 +205,8 @@ fn audit_each<F: FilesByName, R: Read, W: Sink, E: Diagnostics>(
 ///
 /// # Errors
 ///
-/// One input: `CannotRead` if the file couldn't be opened, and those of `Task::run`. Several files:
-/// `CannotWrite`.
+/// One input: `CannotRead` if the file couldn't be opened, and those of `Task::run`. Several files, or
+/// tests: `CannotWrite`.
 pub fn run_inspection<F: FilesByName, R: Read, W: Sink, E: Diagnostics>(
     files: &F,
     alloc: Global,
@@ -227,6 +228,12 @@ pub fn run_inspection<F: FilesByName, R: Read, W: Sink, E: Diagnostics>(
             let names = names.as_slice();
             let outcome = audit_each(files, alloc, as_json, names, input, output, errors);
             errors.end();
+            let _ = tell_outcome(alloc, &outcome, None, None, &*output, errors);
+            outcome
+        }
+        Inspection::Tests(names) => {
+            let names = names.as_slice();
+            let outcome = audit_tests(files, alloc, names, input, output, errors);
             let _ = tell_outcome(alloc, &outcome, None, None, &*output, errors);
             outcome
         }

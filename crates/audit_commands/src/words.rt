@@ -88,6 +88,7 @@ fn audit<'a>(alloc: Global) -> Result<Command<'a>, AllocError>
     let progress =
         "With --chain: shows on standard error how far it has come, if that is a terminal";
     let json = "Prints a JSON object on a line: for each file, or for each segment and at the end";
+    let tap = "Prints a line of the Test Anything Protocol for each file that is named";
     Command::new(alloc, "audit")
         .about("Prints whether a trace is right")
         .arg(flag(alloc, "json", json))?
@@ -95,6 +96,7 @@ fn audit<'a>(alloc: Global) -> Result<Command<'a>, AllocError>
         .arg(flag(alloc, "quiet", quiet))?
         .arg(flag(alloc, "progress", progress))?
         .arg(least_overlap(alloc))?
+        .arg(flag(alloc, "tap", tap))?
         .arg(files(alloc))
 }
 

@@ -202,6 +202,26 @@ fn named_report_of(
     })
 }
 
+/// What is answered to what was read of the file of this name: a line of the name, a colon and the first line of the verdict, or the JSON
+/// object of the verdict with this name; and 0 where it is a right trace, else 1. Needs the memory of `audit_read`.
+///
+/// # Errors
+///
+/// `Memory` where a growth of memory was refused, here or as the input was read.
+pub fn named_audit_read(
+    alloc: Global,
+    name: &str,
+    read: Result<Trace, Fail<Format>>,
+    as_json: bool,
+) -> Result<Report, Memory>
+    ensures { (bytes : List ℕ) → Reads bytes read → IfOk result (λ report.
+        IsNamedAudit as_json name.now bytes (string_bytes report.text) report.status) }
+{
+    let found = find(alloc, read, as_json)?;
+    let report = named_report_of(alloc, name, &found, as_json)?;
+    Ok(report)
+}
+
 /// Reads a trace as `audit_io` does, judges it, and writes a line: this name, a colon and the first line of the verdict, or the JSON object
 /// of the verdict with this name. Needs the memory of `audit_io`. The progress gets how much a right trace has.
 ///

@@ -18,7 +18,7 @@ mod sink;
 mod source;
 mod unit_input;
 
-pub use audit::{audit_io, audit_read, named_audit_io};
+pub use audit::{audit_io, audit_read, named_audit_io, named_audit_read};
 pub use chain::audit::{MOST_BLOCKS, audit_chain_io};
 pub use chain::explain::explain_chain_io;
 pub use chain::pages::{chain_end_io, chain_start_io};

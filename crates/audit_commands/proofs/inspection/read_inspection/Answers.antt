@@ -13,9 +13,9 @@ returns-in-Some-audit-default-clause-asks c =
     let found = found_of arm.given.now in
     let name_is = ap Some (sym arm.is-audit) ∙ arm.ensures.name in
     let sub_is = entered _ (codes "audit") (rows_of found) name_is arm.ensures.rows in
-    IfOk-weaker c.read_audit.result _ _
+    IfOk-weaker c.read_audits.result _ _
     (λ inspection h. subst (λ s. IsSomeAnd s (λ given. AsksInspection given inspection)) (sym sub_is) (inl (refl, h)))
-    c.read_audit.ensures.asks
+    c.read_audits.ensures.asks
 
 pub returns-in-Some-audit-default-clause-fault : goal.returns-in-Some-audit-default-clause-fault
 returns-in-Some-audit-default-clause-fault c =
@@ -23,8 +23,8 @@ returns-in-Some-audit-default-clause-fault c =
     let found = found_of arm.given.now in
     let name_is = ap Some (sym arm.is-audit) ∙ arm.ensures.name in
     let sub_is = entered _ (codes "audit") (rows_of found) name_is arm.ensures.rows in
-    IfErr-weaker c.read_audit.result _ _
-    (λ e h. of_audit e (MissingSubcommand ∷ []) (subcommand_rows_of c.args.matches.now) (rows_of found) sub_is h) c.read_audit.ensures.misused
+    IfErr-weaker c.read_audits.result _ _
+    (λ e h. of_audit e (MissingSubcommand ∷ []) (subcommand_rows_of c.args.matches.now) (rows_of found) sub_is h) c.read_audits.ensures.misused
 
 pub returns-in-Some-explain-default-clause-asks : goal.returns-in-Some-explain-default-clause-asks
 returns-in-Some-explain-default-clause-asks c =

@@ -15,7 +15,8 @@ returns c =
     let three = with_option c.in_ok-arg-3.ensures two c.flag-3.ensures.rule c.flag-3.ensures.local in
     let four = with_option c.in_ok-arg-4.ensures three c.flag-4.ensures.rule c.flag-4.ensures.local in
     let five = with_option c.in_ok-arg-5.ensures four c.least_overlap.ensures.rule c.least_overlap.ensures.local in
+    let six = with_option c.in_ok-arg-6.ensures five c.flag-5.ensures.rule c.flag-5.ensures.local in
     record {
-      app = IfOk-weaker c.arg-6.result _ _ (λ command h. (with_option h five c.files.ensures.rule c.files.ensures.local).app_is) c.arg-6.ensures;
-      local = IfOk-weaker c.arg-6.result _ _ (λ command h. (with_option h five c.files.ensures.rule c.files.ensures.local).local) c.arg-6.ensures;
+      app = IfOk-weaker c.arg-7.result _ _ (λ command h. (with_option h six c.files.ensures.rule c.files.ensures.local).app_is) c.arg-7.ensures;
+      local = IfOk-weaker c.arg-7.result _ _ (λ command h. (with_option h six c.files.ensures.rule c.files.ensures.local).local) c.arg-7.ensures;
     }
