@@ -17,7 +17,7 @@ pub enum Verdict<'a> {
     Wrong(Fault),
 }
 
-/// What keeps bytes from spelling a trace.
+/// What keeps bytes from spelling a trace, or a segment.
 #[allow(missing_docs)]
 #[derive(Clone, Copy, Debug, PartialEq, Eq)]
 pub enum Format {
@@ -28,6 +28,8 @@ pub enum Format {
     BadEvent { event: u32 },
     BadFrame { replica: u32, index: u32 },
     Trailing,
+    BadChain,
+    BadStart { index: u32 },
 }
 
 /// What is wrong with a recorded run; docs/DEFINITIONS.md has what each says. Events and calls are named by index.
@@ -51,6 +53,14 @@ pub enum Fault {
     ReservedBit { replica: u32, frame: u64, word: u32 },
     StrayFrame { replica: u32, frame: u64 },
     Differs { replica: u32, address: u64 },
+    StartMissing { frame: u64 },
+    StartShared { frame: u64 },
+    StartReserved { frame: u64, word: u32 },
+    StartStray { frame: u64 },
+    StartBeyond { address: u64 },
+    StartDiffers { address: u64 },
+    Stale { call: u32 },
+    Reachable { call: u32 },
 }
 
 /// A growth of memory was refused.
@@ -94,7 +104,7 @@ pub fn audit<'a>(bytes: &[u8], order: &'a mut [u32]) -> Result<Verdict<'a>, OutO
     }
 }
 
-fn fault_in(finding: &Finding) -> Fault {
+pub(crate) fn fault_in(finding: &Finding) -> Fault {
     let (index, replica, number) = (finding.index, finding.replica, finding.number);
     match finding.fault {
         1 => Fault::Format(format_in(finding)),
@@ -130,6 +140,17 @@ fn fault_in(finding: &Finding) -> Fault {
             replica,
             address: number,
         },
+        18 => Fault::StartMissing { frame: number },
+        19 => Fault::StartShared { frame: number },
+        20 => Fault::StartReserved {
+            frame: number,
+            word: index,
+        },
+        21 => Fault::StartStray { frame: number },
+        22 => Fault::StartBeyond { address: number },
+        23 => Fault::StartDiffers { address: number },
+        24 => Fault::Stale { call: index },
+        25 => Fault::Reachable { call: index },
         _ => unreachable!("no other fault is promised"),
     }
 }
@@ -148,6 +169,10 @@ fn format_in(finding: &Finding) -> Format {
             index: finding.index,
         },
         7 => Format::Trailing,
+        8 => Format::BadChain,
+        9 => Format::BadStart {
+            index: finding.index,
+        },
         _ => unreachable!("no other fault of the format is promised"),
     }
 }

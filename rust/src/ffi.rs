@@ -25,6 +25,15 @@ pub(crate) struct Reply {
     pub(crate) number: u64,
 }
 
+/// The handle of a chain that is judged as it comes.
+#[cfg(feature = "audit")]
+#[derive(Debug)]
+#[repr(C)]
+pub(crate) struct AuditChain {
+    pub(crate) magic: u64,
+    pub(crate) at: *mut core::ffi::c_void,
+}
+
 /// A verdict in numbers.
 #[cfg(feature = "audit")]
 #[derive(Debug, Default)]
@@ -316,6 +325,35 @@ extern "C" {
         room: usize,
         finding: *mut Finding,
     ) -> u32;
+
+    #[cfg(feature = "audit")]
+    pub(crate) fn nrvs_audit_chain_new(chain: *mut AuditChain, explain: bool) -> u32;
+
+    #[cfg(feature = "audit")]
+    pub(crate) fn nrvs_audit_chain_feed(
+        chain: *mut AuditChain,
+        bytes: *const u8,
+        length: usize,
+        order: *mut u32,
+        room: usize,
+        finding: *mut Finding,
+        taken: *mut usize,
+    ) -> u32;
+
+    #[cfg(feature = "audit")]
+    pub(crate) fn nrvs_audit_chain_end(chain: *mut AuditChain, finding: *mut Finding) -> u32;
+
+    #[cfg(feature = "audit")]
+    pub(crate) fn nrvs_audit_chain_explain(
+        chain: *mut AuditChain,
+        as_json: bool,
+        text: *mut u8,
+        room: usize,
+        length: *mut usize,
+    ) -> u32;
+
+    #[cfg(feature = "audit")]
+    pub(crate) fn nrvs_audit_chain_free(chain: *mut AuditChain);
 }
 
 #[cfg(all(test, feature = "plans"))]

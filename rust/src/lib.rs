@@ -41,6 +41,8 @@
 
 #[cfg(feature = "audit")]
 mod audit;
+#[cfg(feature = "audit")]
+mod chain;
 mod errors;
 mod ffi;
 #[cfg(feature = "nodes")]
@@ -56,6 +58,8 @@ mod table;
 
 #[cfg(feature = "audit")]
 pub use audit::{audit, Fault, Format, OutOfMemory, Verdict};
+#[cfg(feature = "audit")]
+pub use chain::{Chain, ChainError, Fed};
 pub use errors::{AccessError, BadMemory, BadRequest, ChangeError, MapError};
 pub use page::{Access, Depth, Frame, Mapping, Mark, Mode, Page, Rights, Size};
 #[cfg(feature = "plans")]

@@ -1,6 +1,6 @@
 //! The audit of traces whose verdicts are known from elsewhere.
 #![cfg(feature = "audit")]
-use nrvs::{audit, Fault, Format, Verdict};
+use nrvs::{audit, Chain, ChainError, Fault, Fed, Format, Verdict};
 
 fn bytes_of(path: &str) -> Vec<u8> {
     std::fs::read(format!("{}/../{path}", env!("CARGO_MANIFEST_DIR"))).unwrap()
@@ -143,4 +143,67 @@ fn the_faults() {
             address: 0x400000
         }
     );
+}
+
+/// What is said of a chain in pieces of at most so many bytes: the orders of its right segments, and the fault behind them.
+fn judged(chain: &mut Chain, bytes: &[u8], most: usize) -> (Vec<Vec<u32>>, Option<Fault>) {
+    let (mut orders, mut rest) = (Vec::new(), bytes);
+    while !rest.is_empty() {
+        let piece = &rest[..rest.len().min(most)];
+        let mut array = [7; 16];
+        let taken = match chain.feed(piece, &mut array).unwrap() {
+            Fed::Right { taken, order, .. } => {
+                orders.push(order.unwrap().to_vec());
+                taken
+            }
+            Fed::More => piece.len(),
+            Fed::Wrong(fault) => return (orders, Some(fault)),
+        };
+        rest = &rest[taken..];
+    }
+    (orders, chain.end().unwrap())
+}
+
+#[test]
+fn chains_as_they_come() {
+    let right = bytes_of("tests/chains/two_segments.chain");
+    let wrong = bytes_of("tests/chains/second_begins_elsewhere.chain");
+    let cut = bytes_of("tests/chains/cut_in_the_second.chain");
+    for most in [1, 4096, usize::MAX] {
+        let said = |bytes: &[u8]| judged(&mut Chain::new(false).unwrap(), bytes, most);
+        let differs = Fault::StartDiffers { address: 0x400000 };
+        assert_eq!(said(&right), (vec![vec![0, 2], vec![0]], None));
+        assert_eq!(said(&wrong), (vec![vec![0, 2]], Some(differs)));
+        assert_eq!(
+            said(&cut),
+            (vec![vec![0, 2]], Some(Fault::Format(Format::Truncated)))
+        );
+        assert_eq!(said(&[]), (vec![], Some(Fault::Format(Format::Truncated))));
+    }
+    let mut chain = Chain::new(false).unwrap();
+    let fed = chain.feed(&right, &mut []).unwrap();
+    assert!(matches!(
+        fed,
+        Fed::Right {
+            calls: 2,
+            order: None,
+            ..
+        }
+    ));
+}
+
+#[test]
+fn explanations_of_chains() {
+    let input = bytes_of("tests/cases/chain_explained_stale_touch/input");
+    let wanted = bytes_of("tests/cases/chain_explained_stale_touch/output");
+    let mut chain = Chain::new(true).unwrap();
+    assert_eq!(chain.explain(false, &mut []), Err(ChainError::NotExplained));
+    let (_, fault) = judged(&mut chain, &input, 100);
+    assert_eq!(fault, Some(Fault::Stale { call: 4 }));
+    assert_eq!(chain.feed(&input, &mut []), Err(ChainError::Over));
+    assert_eq!(chain.end(), Err(ChainError::Over));
+    assert_eq!(chain.explain(false, &mut []), Ok(wanted.len()));
+    let mut text = vec![0; wanted.len()];
+    assert_eq!(chain.explain(false, &mut text), Ok(wanted.len()));
+    assert_eq!(text, wanted);
 }

@@ -101,10 +101,17 @@ VALUE(NRVS_HARVEST, 35);
 VALUE(NRVS_ABSENT, 36);
 VALUE(NRVS_ENDS_BEYOND, 37);
 
-/* The audit: `verdict_status`; faults and formats: `fault_numbers`, `format_numbers` of crates/nrvs_audit_c/specs/Numbers.antt. */
+/* The audit: `verdict_status`, and crates/nrvs_audit_c/src/status.rt; faults and formats: `fault_numbers`, `format_numbers` of
+ * crates/nrvs_audit_c/specs/Numbers.antt.
+ */
 VALUE(NRVS_RIGHT, 0);
 VALUE(NRVS_WRONG, 1);
+VALUE(NRVS_MORE, 2);
 VALUE(NRVS_NO_MEMORY, 3);
+VALUE(NRVS_NO_CHAIN, 4);
+VALUE(NRVS_CHAIN_OVER, 5);
+VALUE(NRVS_CHAIN_IN_USE, 6);
+VALUE(NRVS_NOT_EXPLAINED, 7);
 VALUE(NRVS_FORMAT, 1);
 VALUE(NRVS_THREAD_OPEN, 2);
 VALUE(NRVS_NO_SUCH_CALL, 3);
@@ -122,6 +129,14 @@ VALUE(NRVS_SHARED_FRAME, 14);
 VALUE(NRVS_RESERVED_BIT, 15);
 VALUE(NRVS_STRAY_FRAME, 16);
 VALUE(NRVS_DIFFERS, 17);
+VALUE(NRVS_START_MISSING, 18);
+VALUE(NRVS_START_SHARED, 19);
+VALUE(NRVS_START_RESERVED, 20);
+VALUE(NRVS_START_STRAY, 21);
+VALUE(NRVS_START_BEYOND, 22);
+VALUE(NRVS_START_DIFFERS, 23);
+VALUE(NRVS_STALE, 24);
+VALUE(NRVS_REACHABLE, 25);
 VALUE(NRVS_FORMAT_TRUNCATED, 1);
 VALUE(NRVS_FORMAT_MAGIC, 2);
 VALUE(NRVS_FORMAT_VERSION, 3);
@@ -129,6 +144,8 @@ VALUE(NRVS_FORMAT_COUNT, 4);
 VALUE(NRVS_FORMAT_EVENT, 5);
 VALUE(NRVS_FORMAT_FRAME, 6);
 VALUE(NRVS_FORMAT_TRAILING, 7);
+VALUE(NRVS_FORMAT_CHAIN, 8);
+VALUE(NRVS_FORMAT_START, 9);
 
 /* Nodes: what is asked for and its word, `numbers_of`, `numbers_of_word` of crates/nrvs_nodes_c/specs/Numbers.antt; refusals, `refusal_code`
  * there and `NO_NODE` of crates/nrvs_nodes_c/src/codes.rt; limits, `NODES` and `RING` of crates/nr_machine/src/words.rt.

@@ -1,2 +1,5 @@
 pub mod Numbers
 pub mod Told
+pub mod Held
+pub mod Chains
+pub mod Calls

@@ -1,5 +1,5 @@
 -- Verdicts in numbers.
-use Rattle.std.specs.Prelude.{ℕ, length}
+use Rattle.std.specs.Prelude.{ℕ, length, Option, None, Some}
 use Rattle.nr_audit.specs.declared.verdict.Verdict.{Verdict}
 use Rattle.nr_audit.specs.declared.verdict.Verdict.TheVariants.{Yes, No}
 use Rattle.nr_trace.specs.declared.fault.Format.{Format}
@@ -64,3 +64,8 @@ fault_numbers (faults.Reachable call) = with_index 25 call
 abbrev pub finding_of : Verdict → Finding
 finding_of (Yes order) = record { fault = 0; format = 0; index = 0; replica = 0; number = 0; calls = length order }
 finding_of (No fault) = fault_numbers fault
+
+-- the numbers of how a chain ends: none, or those of its fault
+abbrev pub end_numbers : Option Fault → Finding
+end_numbers None = with_index 0 0
+end_numbers (Some fault) = fault_numbers fault

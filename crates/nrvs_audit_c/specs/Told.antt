@@ -7,13 +7,13 @@ use Rattle.nr_audit.specs.declared.verdict.Verdict.TheVariants.{Yes, No}
 use Rattle.nrvs_audit_c.specs.Numbers.{finding_of}
 use Rattle.nrvs_audit_c.specs.declared.finding.Finding.{Finding}
 
--- the array with the calls at its begin, where it has room for all of them; else as it was
-abbrev pub with_calls : List ℕ → List ℕ → List ℕ
-with_calls calls array = if nat_le (length calls) (length array) then calls ++ drop (length calls) array else array
+-- the array with the items at its begin, where it has room for all of them; else as it was
+abbrev pub with_items : List ℕ → List ℕ → List ℕ
+with_items items array = if nat_le (length items) (length array) then items ++ drop (length items) array else array
 
 -- the array after a verdict
 abbrev pub array_after : Verdict → List ℕ → List ℕ
-array_after (Yes order) array = with_calls order array
+array_after (Yes order) array = with_items order array
 array_after (No fault) array = array
 
 -- the status, the numbers and the array are those of the verdict of these bytes; where it is yes they are right with its order

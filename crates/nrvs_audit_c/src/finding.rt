@@ -1,7 +1,7 @@
 //! Verdicts in numbers.
 
 ghost use Rattle.std.specs.Prelude.{◌≡◌};
-ghost use Rattle.nrvs_audit_c.specs.Numbers.{fault_numbers, finding_of, format_numbers, with_dump, with_format, with_index};
+ghost use Rattle.nrvs_audit_c.specs.Numbers.{end_numbers, fault_numbers, finding_of, format_numbers, with_dump, with_format, with_index};
 
 use nr_audit::Verdict;
 use nr_trace::{Fault, Format};
@@ -10,9 +10,9 @@ use nr_trace::{Fault, Format};
 #[repr(C)]
 #[derive(Clone, Copy, Debug, PartialEq, Eq)]
 pub struct Finding {
-    /// 0 where the trace is right, else the number of the fault: 1 to 17.
+    /// 0 where the trace is right, else the number of the fault: 1 to 25.
     pub fault: u32,
-    /// What is wrong with the bytes, for fault 1: 1 to 7.
+    /// What is wrong with the bytes, for fault 1: 1 to 9.
     pub format: u32,
     /// The index of an event, a call, a place of the log, or a frame or word of a dump.
     pub index: u32,
@@ -35,6 +35,16 @@ impl Finding {
                 ..Finding::with_index(0, 0)
             },
             Verdict::No(fault) => Finding::of_fault(*fault),
+        }
+    }
+
+    /// The numbers of how a chain ends.
+    pub(crate) fn of_end(found: Option<Fault>) -> Finding
+        ensures { result ≡ end_numbers found }
+    {
+        match found {
+            None => Finding::with_index(0, 0),
+            Some(fault) => Finding::of_fault(fault),
         }
     }
 

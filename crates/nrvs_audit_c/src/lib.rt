@@ -1,9 +1,19 @@
-//! The audit for C: bytes are judged, and the verdict is given in numbers.
+//! The audit for C: bytes are judged, and the verdict is given in numbers. A chain is judged as it comes, a segment at a time.
 //!
-//! A call allocates on the heap that is linked with it, and frees all of it before it returns.
+//! A call allocates on the heap that is linked with it. What a chain keeps there between calls is freed by `nrvs_audit_chain_free`, and all
+//! else before the call returns.
 #![tactic(auto)]
 
+mod chain;
 mod export;
 mod finding;
+mod handle;
+mod held;
+mod judging;
+mod loose;
+mod status;
+mod telling;
+mod written;
 
 pub use finding::Finding;
+pub use handle::Handle;

@@ -1,0 +1,20 @@
+use Rattle.std.proofs.Common.{Option, sym, subst}
+use Rattle.nrvs_audit_c.specs.Calls.{TellsMore, TellsSegment}
+use Rattle.nrvs_audit_c.specs.Chains.{IsFed}
+use Rattle.nrvs_audit_c.specs.declared.judging.Judging.{Judging}
+use Rattle.nrvs_audit_c.proofs.chain.nrvs_audit_chain_feed.Goals as goal
+
+pub returns-clause-told : goal.returns-clause-told
+returns-clause-told c = λ small before orders explain fed.
+    subst (λ (held : Option Judging). TellsSegment before orders explain c.args.bytes.now c.feed.result c.feed.new.taken c.feed.new.finding
+    c.args.order.now c.feed.new.order held) (sym c.of.ensures.held)
+    (c.feed.ensures.told small before orders explain (subst (IsFed before orders explain) (sym c.open.ensures.held) fed))
+
+pub returns-clause-more : goal.returns-clause-more
+returns-clause-more c = λ more before orders explain fed.
+    subst (λ (held : Option Judging). TellsMore before orders explain c.args.bytes.now c.feed.new.taken held) (sym c.of.ensures.held)
+    (c.feed.ensures.more more before orders explain (subst (IsFed before orders explain) (sym c.open.ensures.held) fed))
+
+pub returns-clause-over : goal.returns-clause-over
+returns-clause-over c = λ over before orders explain fed.
+    c.feed.ensures.over over before orders explain (subst (IsFed before orders explain) (sym c.open.ensures.held) fed)

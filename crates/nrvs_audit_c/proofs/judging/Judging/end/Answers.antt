@@ -1,0 +1,25 @@
+use Rattle.std.proofs.Common.{sym, ◌∙◌, subst, Some, None, Option}
+use Rattle.nr_trace.specs.declared.fault.Fault.{Fault}
+use Rattle.nr_chain.specs.Bytes.{GoesOnSo}
+use Rattle.nr_chain.proofs.FoundChains.{right_chain}
+use Rattle.nrvs_audit_c.specs.Chains.{IsFed}
+use Rattle.nrvs_audit_c.specs.declared.judging.Judging.{Judging}
+use Rattle.nrvs_audit_c.proofs.Pieces.{found_at_end}
+use Rattle.nrvs_audit_c.proofs.judging.Judging.end.Goals as goal
+
+pub returns-in-Over-clause-over : goal.returns-in-Over-clause-over
+returns-in-Over-clause-over c = λ is bytes orders explain fed.
+    subst (λ (j : Judging). IsFed bytes orders explain (Some j)) (sym c.replace.ensures.value ∙ c.in-Over.is) fed
+
+pub returns-in-Ok-clause-told : goal.returns-in-Ok-clause-told
+returns-in-Ok-clause-told c = λ small bytes orders explain fed.
+    let there = subst (λ (j : Judging). IsFed bytes orders explain (Some j)) (sym c.replace.ensures.value ∙ c.in-Open.is) fed in
+    let so = found_at_end bytes orders c.in-Open.chain c.end.result there.0 (c.end.ensures there.0.run there.0.kept) in
+    record {
+      found = c.end.result;
+      goes_on = so;
+      right = λ none. right_chain bytes orders (subst (λ (found : Option Fault). GoesOnSo None bytes orders found) none so);
+      status_is = c.end_status.ensures.is;
+      finding_is = c.of_end.ensures;
+      over = c.in-Ok.ensures bytes explain there.1;
+    }

@@ -1,0 +1,15 @@
+use Rattle.std.proofs.Common.{refl, sym, ◌∙◌, ap}
+use Rattle.nrvs_audit_c.proofs.judging.write_told.Goals as goal
+
+pub returns-in-Ok-clause-told : goal.returns-in-Ok-clause-told
+returns-in-Ok-clause-told c = λ small bytes explained. record {
+  told = c.as_bytes.result.now;
+  is_explained = record {
+    explanation = c.args.explanation.now;
+    is_explanation = explained;
+    text_is = c.as_bytes.ensures ∙ c.in-Ok.ensures;
+    status_is = c.explanation_status.ensures.is;
+  };
+  count_is = refl;
+  array_is = c.write_text.ensures;
+}

@@ -1,0 +1,206 @@
+//! A chain that is judged as it comes.
+
+ghost use Rattle.std.specs.Prelude.{◌≡◌, ◌≢◌, ◌≤◌, ℕ, List, Bool, IfOk};
+ghost use Rattle.nr_explain.specs.ChainExplanation.{IsExplanationOfChain};
+ghost use Rattle.nrvs_audit_c.specs.Calls.{IsSaid, TellsText};
+ghost use Rattle.nrvs_audit_c.specs.Chains.{HasJudged, IsTold};
+
+use crate::finding::Finding;
+use crate::status::{
+    MORE, NO_MEMORY, NOT_EXPLAINED, OVER, end_status, explanation_status, status_of,
+};
+use crate::telling::{Telling, begin_telling, end_told, take_told};
+use crate::written::{write_order, write_text};
+use audit_texts::told_chain;
+use nr_audit::Verdict;
+use nr_chain::{Chain, Step};
+use nr_explain::ChainExplanation;
+use std::alloc::Global;
+use std::mem::replace;
+use vs_types::Memory;
+
+/// A chain that is judged as it comes.
+#[derive(Drop)]
+pub enum Judging {
+    /// More may come.
+    Open(Chain, Option<Telling>),
+    /// It has its verdict, or memory ran out; what explains the verdict, if that was asked for.
+    Over(Option<ChainExplanation>),
+}
+
+/// What is said of a piece.
+#[derive(Drop)]
+enum Said {
+    /// The whole piece is taken, and too few bytes have come of the segment.
+    More(Judging),
+    /// So many bytes at the front of the piece show this of the segment.
+    Verdict(usize, Verdict, Judging),
+}
+
+/// Feeds a piece to an open chain, up to the end of a segment.
+fn judge_piece(
+    alloc: Global,
+    chain: Chain,
+    telling: Option<Telling>,
+    piece: &[u8],
+) -> Result<Said, Memory>
+    ensures { (bytes : List ℕ) (orders : List (List ℕ)) (explain : Bool)
+        → HasJudged bytes orders chain → IsTold bytes explain telling
+        → IfOk result (IsSaid bytes orders explain piece.now) }
+{
+    if piece.is_empty() {
+        return Ok(Said::More(Judging::Open(chain, telling)));
+    }
+    match chain.feed(alloc, piece, false)? {
+        Step::More(next) => {
+            let told = take_told(telling, piece)?;
+            Ok(Said::More(Judging::Open(next, told)))
+        }
+        Step::Right(count, order, _, next) => {
+            let told_so_far = take_told(telling, &piece[..count])?;
+            let judging = Judging::Open(next, told_so_far);
+            Ok(Said::Verdict(count, Verdict::Yes(order), judging))
+        }
+        Step::Wrong(fault) => {
+            let all_told = take_told(telling, piece)?;
+            let explanation = end_told(all_told)?;
+            let judging = Judging::Over(explanation);
+            Ok(Said::Verdict(piece.len(), Verdict::No(fault), judging))
+        }
+    }
+}
+
+/// Writes the text of an explanation, if there is room for it, and how many bytes it has.
+fn write_told(
+    alloc: Global,
+    as_json: bool,
+    explanation: &ChainExplanation,
+    text: &mut [u8],
+    length: &mut usize,
+) -> u32
+    ensures told { result ≤ 1 → (bytes : List ℕ) → IsExplanationOfChain bytes explanation.now
+        → TellsText as_json bytes result length.new text.old text.new }
+    ensures statuses { (result ≤ 3) × (result ≢ 2) }
+    ensures length { 2 ≤ result → length.new ≡ length.old }
+    ensures text { 2 ≤ result → text.new ≡ text.old }
+{
+    let Ok(told) = told_chain(alloc, as_json, explanation) else {
+        return NO_MEMORY;
+    };
+    let bytes = told.as_bytes();
+    *length = bytes.len();
+    write_text(bytes, text);
+    explanation_status(explanation)
+}
+
+impl Judging {
+    ghost use Rattle.std.specs.Prelude.{◌≡◌, ◌≢◌, ◌≤◌, [], ℕ, List, Bool, Some, true};
+    ghost use Rattle.nrvs_audit_c.specs.Calls.{TellsEnd, TellsMore, TellsSegment, TellsText};
+    ghost use Rattle.nrvs_audit_c.specs.Chains.{IsFed, IsOver};
+
+    /// A chain of which nothing has come yet, and whether its verdict is to be explained.
+    pub(crate) fn new(alloc: Global, explain: bool) -> Judging
+        ensures { IsFed [] [] explain (Some result) }
+    {
+        Judging::Open(Chain::new(alloc), begin_telling(alloc, explain))
+    }
+
+    /// Feeds a piece, up to the end of a segment.
+    pub(crate) fn feed(
+        &mut self,
+        alloc: Global,
+        piece: &[u8],
+        order: &mut [u32],
+        finding: &mut Finding,
+        taken: &mut usize,
+    ) -> u32
+        ensures told { result ≤ 1 → (bytes : List ℕ) (orders : List (List ℕ)) (explain : Bool)
+            → IsFed bytes orders explain (Some self.old)
+            → TellsSegment bytes orders explain piece.now result taken.new finding.new order.old
+            order.new (Some self.new) }
+        ensures more { result ≡ 2 → (bytes : List ℕ) (orders : List (List ℕ)) (explain : Bool)
+            → IsFed bytes orders explain (Some self.old)
+            → TellsMore bytes orders explain piece.now taken.new (Some self.new) }
+        ensures over { result ≡ 5 → (bytes : List ℕ) (orders : List (List ℕ)) (explain : Bool)
+            → IsFed bytes orders explain (Some self.old) → ⊥ }
+        ensures kept { result ≡ 5 → self.new ≡ self.old }
+        ensures statuses { (result ≤ 5) × (result ≢ 4) }
+        ensures finding { 2 ≤ result → finding.new ≡ finding.old }
+        ensures order { 2 ≤ result → order.new ≡ order.old }
+    {
+        match replace(self, Judging::Over(None)) {
+            Judging::Over(explanation) => {
+                *self = Judging::Over(explanation);
+                OVER
+            }
+            Judging::Open(chain, telling) => match judge_piece(alloc, chain, telling, piece) {
+                Err(Memory) => NO_MEMORY,
+                Ok(Said::More(next)) => {
+                    *self = next;
+                    *taken = piece.len();
+                    MORE
+                }
+                Ok(Said::Verdict(count, verdict, next)) => {
+                    *self = next;
+                    *taken = count;
+                    *finding = Finding::of(&verdict);
+                    write_order(&verdict, order);
+                    status_of(&verdict)
+                }
+            },
+        }
+    }
+
+    /// Ends the chain, with its verdict.
+    pub(crate) fn end(&mut self, finding: &mut Finding) -> u32
+        ensures told { result ≤ 1 → (bytes : List ℕ) (orders : List (List ℕ)) (explain : Bool)
+            → IsFed bytes orders explain (Some self.old)
+            → TellsEnd bytes orders explain result finding.new (Some self.new) }
+        ensures over { result ≡ 5 → (bytes : List ℕ) (orders : List (List ℕ)) (explain : Bool)
+            → IsFed bytes orders explain (Some self.old) → ⊥ }
+        ensures kept { result ≡ 5 → self.new ≡ self.old }
+        ensures statuses { (result ≤ 5) × (result ≢ 4) × (result ≢ 2) }
+        ensures finding { 2 ≤ result → finding.new ≡ finding.old }
+    {
+        match replace(self, Judging::Over(None)) {
+            Judging::Over(explanation) => {
+                *self = Judging::Over(explanation);
+                OVER
+            }
+            Judging::Open(chain, telling) => {
+                let Ok(explanation) = end_told(telling) else {
+                    return NO_MEMORY;
+                };
+                *self = Judging::Over(explanation);
+                let found = chain.end();
+                *finding = Finding::of_end(found);
+                end_status(found)
+            }
+        }
+    }
+
+    /// Writes the text of what explains the verdict, if there is room for it, and how many bytes it has.
+    pub(crate) fn explain(
+        &self,
+        alloc: Global,
+        as_json: bool,
+        text: &mut [u8],
+        length: &mut usize,
+    ) -> u32
+        ensures told { result ≤ 1 → (bytes : List ℕ) (explain : Bool)
+            → IsOver bytes explain (Some self.now)
+            → TellsText as_json bytes result length.new text.old text.new }
+        ensures unexplained { result ≡ 7 → (bytes : List ℕ)
+            → IsOver bytes true (Some self.now) → ⊥ }
+        ensures length { 2 ≤ result → length.new ≡ length.old }
+        ensures text { 2 ≤ result → text.new ≡ text.old }
+    {
+        match self {
+            Judging::Open(_, _) => NOT_EXPLAINED,
+            Judging::Over(None) => NOT_EXPLAINED,
+            Judging::Over(Some(explanation)) => {
+                write_told(alloc, as_json, explanation, text, length)
+            }
+        }
+    }
+}
