@@ -1,5 +1,5 @@
 -- What a parse by clap says of the inspection that is asked for.
-use Rattle.std.proofs.Common.{◌≡◌, ◌∙◌, ◌≤◌, ◌⊎◌, ◌||◌, map, ℕ, Bool, true, false, List, [], ◌∷◌, Option, Some, None, Result, Ok, Err, ap, ap₂, inl}
+use Rattle.std.proofs.Common.{◌≡◌, ◌∙◌, ◌≤◌, ◌<◌, ◌⊎◌, ◌||◌, map, ℕ, Bool, true, false, List, [], ◌∷◌, Option, Some, None, Result, Ok, Err, ap, ap₂, inl}
 use Rattle.std.proofs.Common.{arith, inr, sym, refl, subst, codes, option_map, unwrap_or}
 use Rattle.std.proofs.Common.{Bor, Box, IfErr, IfOk}
 use Rattle.std.specs.Prelude.{MatchBool}
@@ -8,7 +8,8 @@ use Rattle.std.specs.Box.{box_value}
 use Rattle.std.specs.Str.Parse.{ParsesUnsigned}
 use Rattle.clap.specs.Words.{AddsArg, App, HasKind, Kinds, ReadsOne, Row, Rule, Text, app_of, kind_of, rule_of, subcommand_rows, with_rule}
 use Rattle.clap.specs.Walk.{one_of}
-use Rattle.std.proofs.lemmas.List.{length-map}
+use Rattle.std.specs.List.{All}
+use Rattle.std.proofs.lemmas.List.{get_or-map, length-map}
 use Rattle.clap.specs.declared.builder.arg.Arg.{Arg}
 use Rattle.clap.specs.declared.builder.command.Command.{Command}
 use Rattle.clap.specs.declared.error.Error.{Error}
@@ -161,7 +162,7 @@ several_files rows (Tests names) asks none = absurd asks
 -- an option was given with which no file is a test, or none was
 pub other_option : (rows : List Row) (json chain quiet progress : Bool) → IsFlag (one_of (codes "json") rows) json
     → IsFlag (one_of (codes "chain") rows) chain → IsFlag (one_of (codes "quiet") rows) quiet → IsFlag (one_of (codes "progress") rows) progress
-    → IsLeast rows 0 → MatchBool (json || chain || quiet || progress) (HasOtherOption rows) (HasNoOtherOption rows)
+    → IsLeast rows 0 → MatchBool ((json || chain) || (quiet || progress)) (HasOtherOption rows) (HasNoOtherOption rows)
 other_option rows true chain quiet progress j c q p none = inl j
 other_option rows false true quiet progress j c q p none = inr (inl c)
 other_option rows false false true progress j c q p none = inr (inr (inl q))
@@ -178,3 +179,10 @@ pub misuse_of_others : (rows : List Row) (fault : ErrorKind) → IsFlag (one_of 
     → (fault ≡ OutOfMemory) ⊎ IsAuditMisuse rows fault
 misuse_of_others rows fault tap (inl memory) = inl memory
 misuse_of_others rows fault tap (inr misuse) = inr (inl (tap, misuse))
+
+-- what holds of each name, as a borrow has it
+pub of_each : (P : Text → Type 0) (names : List (Bor (List ℕ))) → All P (map (λ (name : Bor (List ℕ)). name.now) names)
+    → All (λ (name : Bor (List ℕ)). P name.now) names
+of_each P names all k d below =
+    subst P (get_or-map (λ (name : Bor (List ℕ)). name.now) names k d d.now below)
+    (all k d.now (subst (λ (n : ℕ). k < n) (sym (length-map names (λ (name : Bor (List ℕ)). name.now))) below))

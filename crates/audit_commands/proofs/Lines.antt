@@ -25,7 +25,8 @@ no_file as_json file_bytes known =
     record { lines = []; names_are = refl; each = All-nil (IsFileLine as_json file_bytes); written = Appends-nil known; status_is = refl }
 
 -- and one more
-pub one_more_file : (as_json : Bool) (file_bytes : List ℕ → Option (List ℕ)) (names : List (List ℕ)) (name : List ℕ) (old now new : Option (List ℕ)) (status one : ℕ)
+pub one_more_file : (as_json : Bool)
+    (file_bytes : List ℕ → Option (List ℕ)) (names : List (List ℕ)) (name : List ℕ) (old now new : Option (List ℕ)) (status one : ℕ)
     → AuditsEach as_json file_bytes names old now status → AuditsOne as_json file_bytes name now new one
     → AuditsEach as_json file_bytes (names ++ name ∷ []) old new (max status one)
 one_more_file as_json file_bytes names name old now new status one so_far next =
@@ -46,7 +47,8 @@ one_more_file as_json file_bytes names name old now new status one so_far next =
     }
 
 -- the same of the next of these names
-pub next_file : (as_json : Bool) (file_bytes : List ℕ → Option (List ℕ)) (names : List (Bor (List ℕ))) (index : ℕ) (none : Bor (List ℕ)) (old now new : Option (List ℕ))
+pub next_file : (as_json : Bool)
+    (file_bytes : List ℕ → Option (List ℕ)) (names : List (Bor (List ℕ))) (index : ℕ) (none : Bor (List ℕ)) (old now new : Option (List ℕ))
     (status one worst_is : ℕ) → index < length names → worst_is ≡ max status one
     → AuditsEach as_json file_bytes (map (λ (name : Bor (List ℕ)). name.now) (take index names)) old now status
     → AuditsOne as_json file_bytes (get_or names index none).now now new one

@@ -21,6 +21,7 @@ lines_from first lines = flat_map test_line (enumerate_from first lines)
 -- the lines of one test more
 one_more_line : (first : ℕ) (lines : List FileLine) (line : FileLine)
     → lines_from first (lines ++ line ∷ []) ≡ lines_from first lines ++ test_line (first + length lines, line)
+unfolding lines_from Rattle.audit_commands.specs.Tasks.passed_words
 one_more_line first [] line =
     let same : first ≡ first + 0 = omega arith in
     append-nil (test_line (first, line)) ∙ ap (λ (k : ℕ). test_line (k, line)) same
@@ -42,6 +43,7 @@ no_test file_bytes known = record {
 pub one_more_test : (file_bytes : List ℕ → Option (List ℕ)) (names : List (List ℕ)) (number : ℕ) (name : List ℕ) (old now new : Option (List ℕ))
     (status one : ℕ) → number ≡ 1 + length names → WritesTests file_bytes names old now status → WritesTest file_bytes number name now new one
     → WritesTests file_bytes (names ++ name ∷ []) old new (max status one)
+unfolding lines_from
 one_more_test file_bytes names number name old now new status one number_is so_far next =
     let line = next.line in
     let tests = so_far.are_tests in
@@ -96,15 +98,15 @@ file_verdict file_bytes name text status named on = record {
 }
 
 -- a test with a verdict
-pub test_judged : (file_bytes : List ℕ → Option (List ℕ)) (number : ℕ) (name text : List ℕ) (old now new : Option (List ℕ)) (status : ℕ)
-    → IsVerdictLine false file_bytes name text status → Appends old now (test_head number status) → Appends now new text
-    → WritesTest file_bytes number name old new status
-test_judged file_bytes number name text old now new status is head line = record {
+pub test_judged : (file_bytes : List ℕ → Option (List ℕ)) (number : ℕ) (name text : List ℕ) (old now new : Option (List ℕ)) (status one : ℕ)
+    → one ≡ status → IsVerdictLine false file_bytes name text status → Appends old now (test_head number status) → Appends now new text
+    → WritesTest file_bytes number name old new one
+test_judged file_bytes number name text old now new status one same is head line = record {
   line = record { name = name; text = text; status = status };
   name_is = refl;
   is_test = inl is;
   written = Appends-trans old now new (test_head number status) text head line;
-  status_is = refl;
+  status_is = same;
 }
 
 -- and one without

@@ -1,6 +1,6 @@
 -- What an inspection of one input answers, and of several files, and what the program does with what its words ask for.
 use Rattle.std.specs.Prelude.{◌≡◌, ◌≢◌, ◌⊎◌, ◌-◌, ◌^◌, ◌++◌, ℕ, Bool, true, false, List, [], ◌∷◌, Option, Some, None, Result, Ok, Err, IfErr, IfOk}
-use Rattle.std.specs.Prelude.{MatchResult, codes, decimal, length, map, max, ⊤}
+use Rattle.std.specs.Prelude.{MatchResult, ◌==◌, codes, decimal, if◌then◌else◌, length, map, max, ⊤}
 use Rattle.std.specs.List.{All, concat, enumerate_from, flat_map}
 use Rattle.std.specs.Borrow.{Bor}
 use Rattle.std.specs.Io.KnownBytes.{Appends}
@@ -134,8 +134,7 @@ plan_lines count = codes "TAP version 13\n1.." ++ (decimal count ++ line_end)
 
 -- whether a test passed, by the status of its file
 unfoldable pub passed_words : ℕ → List ℕ
-passed_words 0 = codes "ok "
-passed_words _ = codes "not ok "
+passed_words status = if status == 0 then codes "ok " else codes "not ok "
 
 -- the beginning of a test's line, before the words on the file: whether the test passed, and its number
 abbrev pub test_head : ℕ → ℕ → List ℕ

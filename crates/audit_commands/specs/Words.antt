@@ -196,7 +196,7 @@ AsksTests rows _ = ⊥
 abbrev pub IsTestsMisuse : List Row → ErrorKind → Type 0
 IsTestsMisuse rows kind.ArgumentConflict = HasOtherOption rows
 IsTestsMisuse rows kind.MissingRequiredArgument = all_of (codes "file") rows ≡ None
-IsTestsMisuse rows kind.ValueValidation = (names : List Text) × (all_of (codes "file") rows ≡ Some names)
+IsTestsMisuse rows kind.ValueValidation = (names : List Text) × (all_of (codes "file") rows ≡ Some names) × (All IsPlain names → ⊥)
 IsTestsMisuse rows _ = ⊥
 
 -- what was given with `audit` asks for this, as tests or not

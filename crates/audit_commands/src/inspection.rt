@@ -1,6 +1,6 @@
 //! What the words of `audit`, `explain`, `resolve` and `pages` ask for.
 
-ghost use Rattle.std.specs.Prelude.{◌≡◌, ◌⊎◌, ◌∷◌, [], IfErr, IfOk, IsSomeAnd, MatchBool, codes, false, map, option_map, true};
+ghost use Rattle.std.specs.Prelude.{◌≡◌, ◌⊎◌, ◌∷◌, ◌↔◌, [], IfErr, IfOk, IsSomeAnd, IsTrue, MatchBool, codes, false, map, option_map, true};
 ghost use Rattle.std.specs.List.{All};
 ghost use Rattle.clap.specs.Walk.{one_of};
 ghost use Rattle.clap.specs.Words.{first_of, found_of, kind_of, rows_of, subcommand_rows_of, HasKind};
@@ -151,26 +151,18 @@ fn read_audit<'a>(
 
 /// Whether a test may have this name: it has no line break, and no `#`, which could begin a directive.
 fn is_plain(name: &str) -> bool
-    ensures { result ≡ true → IsPlain name.now }
+    ensures { IsTrue result ↔ IsPlain name.now }
 {
-    for byte in name.as_bytes() {
-        if matches!(*byte, b'#' | b'\n') {
-            return false;
-        }
-    }
-    true
+    name.as_bytes()
+        .iter()
+        .all(|byte| *byte != b'\n' && *byte != b'#')
 }
 
 /// Whether tests may have these names.
 fn are_plain(names: &[&str]) -> bool
-    ensures { result ≡ true → All IsPlain (map (λ name. name.now) names.now) }
+    ensures { IsTrue result ↔ All (λ name. IsPlain name.now) names.now }
 {
-    for name in names {
-        if !is_plain(*name) {
-            return false;
-        }
-    }
-    true
+    names.iter().all(|name| is_plain(*name))
 }
 
 /// Whether an option was given with which no file is a test.
@@ -186,7 +178,7 @@ fn has_other_option(given: &ArgMatches<'_>) -> bool
     let chain = is_given(given, "chain");
     let quiet = is_given(given, "quiet");
     let progress = is_given(given, "progress");
-    json || chain || quiet || progress
+    (json | chain) | (quiet | progress)
 }
 
 /// What was given with `audit` and `--tap` asks for.
@@ -358,10 +350,10 @@ fn read_pages<'a>(line: &mut Command<'a>, given: &ArgMatches<'a>) -> Result<Insp
 ///
 /// # Errors
 ///
-/// `MissingSubcommand` where none of these was given, or what is wrong with what was: `TooManyValues` where several chains are named to
-/// `audit`, `ArgumentConflict` where both ends of a chain are asked of `pages`, or `--tap` has another option, `MissingRequiredArgument`
-/// where an option lacks the one or the files that it is for, `ValueValidation` where a test can't have the name of a file; and out of
-/// memory.
+/// `MissingSubcommand` where none of these was given, and out of memory. Otherwise what is wrong with what was given: `TooManyValues` where
+/// several chains are named to `audit`; `ArgumentConflict` where both ends of a chain are asked of `pages`, or `--tap` has another option.
+/// `MissingRequiredArgument` where an option lacks the one or the files that it is for; `ValueValidation` where a test can't have the name
+/// of a file.
 pub fn read_inspection<'a>(
     alloc: Global,
     line: &mut Command<'a>,

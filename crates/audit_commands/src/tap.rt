@@ -1,6 +1,6 @@
 //! Files that are audited as tests: lines of the Test Anything Protocol.
 
-ghost use Rattle.std.specs.Prelude.{◌≡◌, ◌++◌, IfErr, IfOk, OnOk, false, map, string_bytes};
+ghost use Rattle.std.specs.Prelude.{◌≡◌, ◌++◌, IfErr, IfOk, OnOk, decimal, false, map, string_bytes};
 ghost use Rattle.std.specs.Io.KnownBytes.{Appends};
 ghost use Rattle.audit_commands.specs.Tasks.{AuditsTests, IsVerdictLine, IsVerdictOn, WritesTest, WritesTests};
 ghost use Rattle.audit_commands.specs.Tasks.{passed_words, plan_lines, refused_words, test_head};
@@ -85,6 +85,15 @@ fn passed_words(status: u8) -> &'static str
     }
 }
 
+/// Writes a number in decimal.
+fn write_number<W: Write>(number: usize, output: &mut W) -> Result<(), ProgFault>
+    ensures ok { OnOk result
+        (Appends (W.contents output.old) (W.contents output.new) (decimal number)) }
+    ensures err { IfErr result (λ fault. fault ≡ ProgFault.CannotWrite) }
+{
+    write_text(output, Buffer::new().format(number).as_bytes())
+}
+
 /// Writes the beginning of a test's line, before the words on the file.
 fn write_head<W: Write>(number: usize, status: u8, output: &mut W) -> Result<(), ProgFault>
     ensures ok { OnOk result
@@ -92,7 +101,7 @@ fn write_head<W: Write>(number: usize, status: u8, output: &mut W) -> Result<(),
     ensures err { IfErr result (λ fault. fault ≡ ProgFault.CannotWrite) }
 {
     write_text(output, passed_words(status).as_bytes())?;
-    write_text(output, Buffer::new().format(number).as_bytes())?;
+    write_number(number, output)?;
     write_text(output, b" - ")
 }
 
@@ -168,7 +177,7 @@ fn write_plan<W: Write>(count: usize, output: &mut W) -> Result<(), ProgFault>
     ensures err { IfErr result (λ fault. fault ≡ ProgFault.CannotWrite) }
 {
     write_text(output, b"TAP version 13\n1..")?;
-    write_text(output, Buffer::new().format(count).as_bytes())?;
+    write_number(count, output)?;
     write_text(output, b"\n")
 }
 
@@ -181,10 +190,10 @@ pub(crate) fn audit_tests<F: FilesByName, R: Read, W: Write, E: Diagnostics>(
     output: &mut W,
     errors: &mut E,
 ) -> Result<u8, ProgFault>
-    ensures err { IfErr result (λ fault. fault ≡ ProgFault.CannotWrite) }
     ensures ok { IfOk result
         (AuditsTests (F.file_bytes files.now) (map (λ name. name.now) names.now)
         (W.contents output.old) (W.contents output.new)) }
+    ensures err { IfErr result (λ fault. fault ≡ ProgFault.CannotWrite) }
 {
     write_plan(names.len(), output)?;
     write_tests(files, alloc, names, input, output, errors)

@@ -81,7 +81,8 @@ pub few_read : {known left new : Option (List ℕ)} {chain : ReaderState} {room 
     → Consumes left new (take count block) → length block ≡ 4096 → HasReadFewOfChain known new
 few_read count block here lost full = few_more _ _ _ _ (take count block) here lost (one_block count block full)
 
-pub few_kept : {known left new : Option (List ℕ)} {chain : ReaderState} {room : ℕ} → IsExplaining known left chain room → Keeps left new → HasReadFewOfChain known new
+pub few_kept : {known left new : Option (List ℕ)} {chain : ReaderState} {room : ℕ} → IsExplaining known left chain room → Keeps left new
+    → HasReadFewOfChain known new
 few_kept {left = left} {new = new} here keeps =
     few_more _ _ _ _ [] here (Consumes-kept left left new [] (Consumes-nil left) keeps) (omega arith)
 

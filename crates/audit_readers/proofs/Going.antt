@@ -160,7 +160,8 @@ block_begins run style old number block known kept short = record {
 }
 
 -- a segment is whole, and right
-pub one_right : {known totals : Option Totals} (run : Option Run) (style : Style) (old chain next : ChainFed) (number count taken : ℕ) (block left order : List ℕ)
+pub one_right : {known totals : Option Totals} (run : Option Run) (style : Style) (old chain next : ChainFed) (number count taken : ℕ)
+    (block left order : List ℕ)
     (met : Option Met) (before now after : Option (List ℕ)) (under : IsUnderWay run style old number block chain count left before now known totals)
     (feeds : FeedsChain under.last chain left (steps.Right taken order met next)) → is_some met ≡ is_some totals
     → Appends now after (lines_of style count order)
@@ -222,7 +223,8 @@ next_segment {known = known} {totals = totals} run style old chain next number c
     })
 
 -- the whole block is taken
-pub block_taken : {known totals : Option Totals} (run : Option Run) (style : Style) (old chain next : ChainFed) (number count : ℕ) (block left : List ℕ) (before now : Option (List ℕ))
+pub block_taken : {known totals : Option Totals} (run : Option Run) (style : Style) (old chain next : ChainFed) (number count : ℕ)
+    (block left : List ℕ) (before now : Option (List ℕ))
     (under : IsUnderWay run style old number block chain count left before now known totals) → FeedsChain under.last chain left (steps.More next)
     → TakesBlock run style old number block before now known (More next count totals)
 block_taken {known = known} {totals = totals} run style old chain next number count block left before now under (is, short) =
@@ -242,7 +244,8 @@ block_taken {known = known} {totals = totals} run style old chain next number co
     )
 
 -- nothing of it is left
-pub block_left : {known totals : Option Totals} (run : Option Run) (style : Style) (old chain : ChainFed) (number count : ℕ) (block left : List ℕ) (before now : Option (List ℕ))
+pub block_left : {known totals : Option Totals} (run : Option Run) (style : Style) (old chain : ChainFed) (number count : ℕ)
+    (block left : List ℕ) (before now : Option (List ℕ))
     → IsUnderWay run style old number block chain count left before now known totals → left ≡ []
     → TakesBlock run style old number block before now known (More chain count totals)
 block_left {known = known} {totals = totals} run style old chain number count block left before now under none =
@@ -260,14 +263,16 @@ some_behind [] left some e = some e
 some_behind (x ∷ front) left some e = cc
 
 -- the next segment has a fault
-pub block_wrong : {known totals : Option Totals} (run : Option Run) (style : Style) (old chain : ChainFed) (number count : ℕ) (block left : List ℕ) (before now : Option (List ℕ))
+pub block_wrong : {known totals : Option Totals} (run : Option Run) (style : Style) (old chain : ChainFed) (number count : ℕ)
+    (block left : List ℕ) (before now : Option (List ℕ))
     (fault : Fault) (under : IsUnderWay run style old number block chain count left before now known totals)
     → FeedsChain under.last chain left (steps.Wrong fault) → (left ≡ [] → ⊥) → TakesBlock run style old number block before now known (Wrong count fault)
 block_wrong {totals = totals} run style old chain number count block left before now fault under lasts some =
     (under.last, chain.bytes ++ left, totals, under.taken, lasts, some_behind chain.bytes left some)
 
 -- memory ran out
-pub some_taken : {known totals : Option Totals} (run : Option Run) (style : Style) (old chain : ChainFed) (number count : ℕ) (block left : List ℕ) (before now after : Option (List ℕ))
+pub some_taken : {known totals : Option Totals} (run : Option Run) (style : Style) (old chain : ChainFed) (number count : ℕ)
+    (block left : List ℕ) (before now after : Option (List ℕ))
     → IsUnderWay run style old number block chain count left before now known totals → after ≡ now
     → TakesSome run style old number block before after known
 some_taken {known = known} {totals = totals} run style old chain number count block left before now after under same = (
@@ -280,7 +285,8 @@ some_taken {known = known} {totals = totals} run style old chain number count bl
 )
 
 -- what was written grows
-pub block_grows : {known totals : Option Totals} (run : Option Run) (style : Style) (old chain : ChainFed) (number count : ℕ) (block left : List ℕ) (before now : Option (List ℕ))
+pub block_grows : {known totals : Option Totals} (run : Option Run) (style : Style) (old chain : ChainFed) (number count : ℕ)
+    (block left : List ℕ) (before now : Option (List ℕ))
     → IsUnderWay run style old number block chain count left before now known totals → Grows before now
 block_grows run style old chain number count block left before now under = (shown_lines style number under.taken.orders, under.taken.written)
 
@@ -291,7 +297,8 @@ passed_on (Ok value) fault P same h = tt
 passed_on (Err why) fault P same h = subst P (sym same) h
 
 -- the lines of a segment were not written
-pub unwritten_lines : {W : Type 0} {known totals : Option Totals} (run : Option Run) (style : Style) (old chain : ChainFed) (number count : ℕ) (block left : List ℕ)
+pub unwritten_lines : {W : Type 0} {known totals : Option Totals} (run : Option Run) (style : Style) (old chain : ChainFed)
+    (number count : ℕ) (block left : List ℕ)
     (before : Option (List ℕ)) (contents : W → Option (List ℕ)) (now after : W) (fault : ProgFault)
     → IsUnderWay run style old number block chain count left before (contents now) known totals → (fault ≡ CannotWrite) ⊎ ((fault ≡ Memory) × (after ≡ now))
     → (fault ≡ CannotWrite) ⊎ ((fault ≡ Memory) × TakesSome run style old number block before (contents after) known)

@@ -68,8 +68,10 @@ stayed style known left next old new last rest count here keeps = record {
   written = here.written;
 }
 
-pub read_nothing : {begun totals : Option Totals} (style : Style) (known left next old new : Option (List ℕ)) (last : Option Run) (rest piece : List ℕ) (count : ℕ)
-    → IsAt style known left old new last rest count begun totals → Consumes left next piece → piece ≡ [] → IsAt style known next old new last rest count begun totals
+pub read_nothing : {begun totals : Option Totals} (style : Style) (known left next old new : Option (List ℕ)) (last : Option Run)
+    (rest piece : List ℕ) (count : ℕ)
+    → IsAt style known left old new last rest count begun totals → Consumes left next piece → piece ≡ []
+    → IsAt style known next old new last rest count begun totals
 read_nothing style known left next old new last rest piece count here lost none = record {
   read = here.read;
   consumed = subst (Consumes known next) (append-nil here.read)
@@ -83,12 +85,14 @@ read_nothing style known left next old new last rest piece count here lost none 
 -- nothing more was written
 pub unwritten : {begun totals : Option Totals} {W : Type 0} (style : Style) (known left old : Option (List ℕ)) (contents : W
     → Option (List ℕ)) (now next : W) (last : Option Run) (rest : List ℕ) (count : ℕ)
-    → IsAt style known left old (contents now) last rest count begun totals → next ≡ now → IsAt style known left old (contents next) last rest count begun totals
+    → IsAt style known left old (contents now) last rest count begun totals → next ≡ now
+    → IsAt style known left old (contents next) last rest count begun totals
 unwritten {begun = begun} {totals = totals} style known left old contents now next last rest count here same =
     subst (λ w. IsAt style known left old (contents w) last rest count begun totals) (sym same) here
 
 -- a block more
-pub next_block : {begun totals more : Option Totals} (run : Option Run) (style : Style) (known left next old now new : Option (List ℕ)) (chain : ChainFed) (block : List ℕ)
+pub next_block : {begun totals more : Option Totals} (run : Option Run) (style : Style) (known left next old now new : Option (List ℕ))
+    (chain : ChainFed) (block : List ℕ)
     (last : Option Run) (rest : List ℕ) (number count : ℕ)
     → IsAt style known left old now run chain.bytes number begun totals → Consumes left next block
     → TakesSegments run style chain number block last rest count now new totals more
@@ -150,7 +154,8 @@ few_more {known = known} {left = left} {next = next} {chain = chain} block readi
       one_block = size;
     }
 
-pub few_read : {begun totals : Option Totals} {style : Style} {known left next old new : Option (List ℕ)} {chain : ChainFed} {number room : ℕ} (count : ℕ) (block : List ℕ)
+pub few_read : {begun totals : Option Totals} {style : Style} {known left next old new : Option (List ℕ)} {chain : ChainFed}
+    {number room : ℕ} (count : ℕ) (block : List ℕ)
     → IsReading style known left old new chain number room begun totals → Consumes left next (take count block) → length block ≡ 4096
     → HasReadFewOfChain known next
 few_read count block reading lost full = few_more (take count block) reading lost (one_block count block full)
@@ -161,7 +166,8 @@ few_kept {left = left} {next = next} reading keeps =
     few_more [] reading (Consumes-kept left left next [] (Consumes-nil left) keeps) (omega arith)
 
 -- the lines are written of all segments that were whole before the last read
-pub written_at_once : {begun totals : Option Totals} {style : Style} {known left next old now new : Option (List ℕ)} {chain : ChainFed} {number room : ℕ} (block : List ℕ)
+pub written_at_once : {begun totals : Option Totals} {style : Style} {known left next old now new : Option (List ℕ)} {chain : ChainFed}
+    {number room : ℕ} (block : List ℕ)
     (last : Option ℕ) → IsReading style known left old now chain number room begun totals → Consumes left next block → length block ≤ unwrap_or last 0
     → Grows now new → HasWrittenAtOnce style known next last old new
 written_at_once {style = style} {known = known} {left = left} {next = next} {old = old} {now = now} {new = new} {chain = chain} block last reading
@@ -178,14 +184,16 @@ written_at_once {style = style} {known = known} {left = left} {next = next} {old
       written = Appends-trans old now new (shown_lines style 0 here.orders) more here.written grown;
     }
 
-pub block_at_once : {begun totals : Option Totals} {style : Style} {known left next old now new : Option (List ℕ)} {chain : ChainFed} {number room : ℕ} (count : ℕ)
+pub block_at_once : {begun totals : Option Totals} {style : Style} {known left next old now new : Option (List ℕ)} {chain : ChainFed}
+    {number room : ℕ} (count : ℕ)
     (block : List ℕ) (last : Option ℕ) → IsReading style known left old now chain number room begun totals → Consumes left next (take count block)
     → last ≡ Some count → Grows now new → HasWrittenAtOnce style known next last old new
 block_at_once count block last reading lost is grown =
     written_at_once (take count block) last reading lost
     (subst (λ (l : Option ℕ). length (take count block) ≤ unwrap_or l 0) (sym is) (let long = length-take count block in omega arith)) grown
 
-pub kept_at_once : {begun totals : Option Totals} {style : Style} {known left next old now : Option (List ℕ)} {chain : ChainFed} {number room : ℕ} (last : Option ℕ)
+pub kept_at_once : {begun totals : Option Totals} {style : Style} {known left next old now : Option (List ℕ)} {chain : ChainFed}
+    {number room : ℕ} (last : Option ℕ)
     → IsReading style known left old now chain number room begun totals → Keeps left next → HasWrittenAtOnce style known next last old now
 kept_at_once {left = left} {next = next} {now = now} last reading keeps =
     written_at_once [] last reading (Consumes-kept left left next [] (Consumes-nil left) keeps) (omega arith) (grows_nothing now)
@@ -205,7 +213,8 @@ more_at_once {style = style} {old = old} {now = now} {new = new} so_far (more, g
 }
 
 -- so many blocks were read
-pub reads_too_much : {begun totals : Option Totals} {style : Style} {known left old now : Option (List ℕ)} {chain : ChainFed} {number room : ℕ} (last : Option ℕ)
+pub reads_too_much : {begun totals : Option Totals} {style : Style} {known left old now : Option (List ℕ)} {chain : ChainFed}
+    {number room : ℕ} (last : Option ℕ)
     → IsReading style known left old now chain number room begun totals → room ≡ 0 → IsUnreadable (2 ^ 52 - 1) known left last
 reads_too_much last reading none =
     let many = reading.many in
@@ -214,7 +223,8 @@ reads_too_much last reading none =
 -- ---- where there is no answer
 
 -- the lines of all segments that were whole
-pub all_written : {begun totals : Option Totals} (style : Style) (known left old new : Option (List ℕ)) (last : Option Run) (rest : List ℕ) (count : ℕ) (fault : ProgFault)
+pub all_written : {begun totals : Option Totals} (style : Style) (known left old new : Option (List ℕ)) (last : Option Run) (rest : List ℕ)
+    (count : ℕ) (fault : ProgFault)
     → IsAt style known left old new last rest count begun totals → IsShort last rest → HasWrittenFirst style known left old new fault
 all_written style known left old new last rest count fault here short = record {
   front = here.read;
@@ -227,7 +237,8 @@ all_written style known left old new last rest count fault here short = record {
 }
 
 -- of some
-pub some_written : {begun totals : Option Totals} (style : Style) (known left old new : Option (List ℕ)) (last : Option Run) (rest : List ℕ) (count : ℕ) (fault : ProgFault)
+pub some_written : {begun totals : Option Totals} (style : Style) (known left old new : Option (List ℕ)) (last : Option Run) (rest : List ℕ)
+    (count : ℕ) (fault : ProgFault)
     → IsAt style known left old new last rest count begun totals → fault ≡ Memory → HasWrittenFirst style known left old new fault
 some_written style known left old new last rest count fault here none =
     let (front, is, goes_on) = front_of _ _ None last here.read rest here.orders here.goes_on in
@@ -242,7 +253,8 @@ some_written style known left old new last rest count fault here none =
     }
 
 -- of a block that was not taken
-pub block_refused : {begun totals : Option Totals} (run : Option Run) (style : Style) (known left next old now new : Option (List ℕ)) (chain : ChainFed) (block : List ℕ)
+pub block_refused : {begun totals : Option Totals} (run : Option Run) (style : Style) (known left next old now new : Option (List ℕ))
+    (chain : ChainFed) (block : List ℕ)
     (number : ℕ) (fault : ProgFault)
     → IsAt style known left old now run chain.bytes number begun totals → Consumes left next block
     → (fault ≡ CannotWrite) ⊎ ((fault ≡ Memory) × TakesSome run style chain number block now new totals) → fault ≢ CannotWrite

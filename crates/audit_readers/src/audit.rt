@@ -202,8 +202,8 @@ fn named_report_of(
     })
 }
 
-/// What is answered to what was read of the file of this name: a line of the name, a colon and the first line of the verdict, or the JSON
-/// object of the verdict with this name; and 0 where it is a right trace, else 1. Needs the memory of `audit_read`.
+/// What is answered to what was read of the file of this name, and 0 where it is a right trace, else 1. The answer is a line of the name, a
+/// colon and the first line of the verdict, or the JSON object of the verdict with this name. Needs the memory of `audit_read`.
 ///
 /// # Errors
 ///

@@ -37,5 +37,5 @@ usual_text (faults.Stale call) = codes "an update that was answered before the T
 usual_text (faults.Reachable call) = codes "memory that was freed before the TLBs were flushed"
 
 -- the line that says so
-abbrev pub usual_line : Fault → List ℕ
+unfoldable pub usual_line : Fault → List ℕ
 usual_line fault = codes "Most often this is " ++ (usual_text fault ++ codes ".\n")

@@ -15,7 +15,7 @@ use crate::evidence::{counts_lines, counts_value, evidence_lines, evidence_value
 use crate::fact_json::{Members, put_text};
 use crate::sentence::sentence_text;
 use crate::text::{no_text, yes_text};
-use crate::usual::{push_usual, put_usual};
+use crate::usual::{push_sentence, put_usual};
 use nr_explain::{Counts, Evidence, Explanation};
 use nr_trace::Fault;
 use serde_json::{Map, Value, put};
@@ -32,9 +32,7 @@ pub(crate) fn push_shown(
         ≡ string_bytes text.old ++ shown_text fault shown.now) }
 {
     let sentence = sentence_text(alloc, shown)?;
-    text.push_str(sentence.as_str())?;
-    text.push_str("\n")?;
-    push_usual(text, fault)?;
+    push_sentence(text, sentence.as_str(), fault)?;
     let lines = evidence_lines(alloc, shown)?;
     text.push_str(lines.as_str())
 }

@@ -3,7 +3,7 @@
 ghost use Rattle.std.specs.Prelude.{◌≡◌, ◌++◌, OnOk, codes, string_bytes};
 ghost use Rattle.serde_json.specs.Data.{put as with_member, string};
 ghost use Rattle.serde_json.specs.View.{members_view};
-ghost use Rattle.audit_texts.specs.Text.{fault_text};
+ghost use Rattle.audit_texts.specs.Text.{fault_text, line_end};
 ghost use Rattle.audit_texts.specs.Usual.{usual_line, usual_text};
 
 use crate::fact_json::{Members, put_text};
@@ -55,12 +55,27 @@ pub(crate) fn usual_text(fault: Fault) -> &'static str
 }
 
 /// Adds the line that says so.
-pub(crate) fn push_usual(text: &mut String, fault: Fault) -> Result<(), AllocError>
+#[tactic(auto, unfolding(crate::specs::Usual::usual_line))]
+fn push_usual(text: &mut String, fault: Fault) -> Result<(), AllocError>
     ensures { OnOk result (string_bytes text.new ≡ string_bytes text.old ++ usual_line fault) }
 {
     text.push_str("Most often this is ")?;
     text.push_str(usual_text(fault))?;
     text.push_str(".\n")
+}
+
+/// Adds the sentence of a fault, and the line of what it most often is.
+pub(crate) fn push_sentence(
+    text: &mut String,
+    sentence: &str,
+    fault: Fault,
+) -> Result<(), AllocError>
+    ensures { OnOk result (string_bytes text.new
+        ≡ string_bytes text.old ++ (sentence.now ++ (line_end ++ usual_line fault))) }
+{
+    text.push_str(sentence)?;
+    text.push_str("\n")?;
+    push_usual(text, fault)
 }
 
 /// Puts what a fault most often is, and the line of the verdict.

@@ -85,7 +85,8 @@ module _ (first second : Recording) (clean : HasCleanLog first) where
   -- what is known at the events of the first run
   known_at_left : (replica event : ℕ) → event ≤ length first.events → known_at whole replica event ≡ known_at first replica event
   known_at_left replica event low = both_ways (known_at whole replica event) (known_at first replica event)
-      (at_most (known_at whole replica event) (known_at first replica event) down) (at_most (known_at first replica event) (known_at whole replica event) up) where
+      (at_most (known_at whole replica event) (known_at first replica event) down)
+      (at_most (known_at first replica event) (known_at whole replica event) up) where
         down : (n : ℕ) → n < known_at whole replica event → n < known_at first replica event
         down n l =
             let (index, reply, at, more) = knows_at whole event replica n l in

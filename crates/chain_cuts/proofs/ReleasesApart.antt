@@ -33,7 +33,8 @@ use Rattle.chain_cuts.proofs.TouchesApart.{behind, same_touch}
 
 -- ---- what is given away, and how it is answered
 
-released_behind : (events places : ℕ) (o : Option Event) → option_and_then released_in (option_map (event_behind events places) o) ≡ option_and_then released_in o
+released_behind : (events places : ℕ) (o : Option Event)
+    → option_and_then released_in (option_map (event_behind events places) o) ≡ option_and_then released_in o
 released_behind events places None = refl
 released_behind events places (Some (Reply call at answer)) = refl
 released_behind events places (Some event) = refl

@@ -80,7 +80,8 @@ unanswered trace end call (Some reply) e h = absurd (cc)
 abbrev pub IsIdle : (ℕ → Option ℕ) → List (Option ℕ) → ℕ → Type 0
 IsIdle last table thread = (call : ℕ) → last thread ≡ Some call → get_or table call None ≢ None
 
-none_at : (trace : Recording) (i : ℕ) → (OpensTwice trace i → ⊥) → (HasFaultOn no_pages trace (NoSuchCall i) → ⊥) → (HasFaultOn no_pages trace (AnsweredTwice i) → ⊥)
+none_at : (trace : Recording) (i : ℕ) → (OpensTwice trace i → ⊥) → (HasFaultOn no_pages trace (NoSuchCall i) → ⊥)
+    → (HasFaultOn no_pages trace (AnsweredTwice i) → ⊥)
     → HasNone (IsCallFaultAt i) trace
 none_at trace i a b c (ThreadOpen j) among holds = a (subst (λ k. OpensTwice trace k) among holds)
 none_at trace i a b c (NoSuchCall j) among holds = b (subst (λ k. HasFaultOn no_pages trace (NoSuchCall k)) among holds)
@@ -129,7 +130,8 @@ no_call_fault trace none = none_of_all IsCallFaultAt trace (λ index. elim (case
 ])
 
 -- what is known after all events
-pub table_at_end : (trace : Recording) (last : ℕ → Option ℕ) (table : List (Option ℕ)) → HasNone IsCallFault trace → HasFound trace (length trace.events) last table
+pub table_at_end : (trace : Recording) (last : ℕ → Option ℕ) (table : List (Option ℕ)) → HasNone IsCallFault trace
+    → HasFound trace (length trace.events) last table
     → AreReplies trace table
 table_at_end trace last table clean known = record {
   one_each = known.one_each;
@@ -149,7 +151,8 @@ table_at_end trace last table clean known = record {
     | inr past ↦ absurd (let none = no_reply_past trace index past in cc)
   ]
 
-module _ (trace : Recording) (end : ℕ) (last : ℕ → Option ℕ) (table : List (Option ℕ)) (known : HasFound trace end last table) (within : end < length trace.events) where
+module _ (trace : Recording) (end : ℕ)
+    (last : ℕ → Option ℕ) (table : List (Option ℕ)) (known : HasFound trace end last table) (within : end < length trace.events) where
   below_table : (call : ℕ) → call < end → call < length table
   below_table call lt = omega (arith, known.one_each)
 

@@ -29,7 +29,8 @@ use Rattle.nr_audit.proofs.Starts.{start_pass}
 -- ---- touches
 
 -- right touches are not stale
-pub none_stale : (before : Option Run) (start : Space) (segment : Recording) → HasRightTouches before start segment → (call : ℕ) → IsStale before start segment call → ⊥
+pub none_stale : (before : Option Run) (start : Space) (segment : Recording) → HasRightTouches before start segment → (call : ℕ)
+    → IsStale before start segment call → ⊥
 none_stale before start segment right call stale = stale.3 (right stale.0 stale.1)
 
 module _ (before : Option Run) (start : Space) (segment : Recording) where
@@ -102,7 +103,8 @@ no_touches before start segment none touch has = absurd (none (touch.made, subst
 -- ---- with the start
 
 -- a fault of a start is one of the segment
-pub of_start : (before : Option Run) (segment : Recording) (fault : Fault) → HasStartFault (space_before before) segment fault → HasFaultAfter before segment fault
+pub of_start : (before : Option Run) (segment : Recording) (fault : Fault) → HasStartFault (space_before before) segment fault
+    → HasFaultAfter before segment fault
 of_start before segment (StartMissing number) h = h
 of_start before segment (StartShared number) h = h
 of_start before segment (StartReserved number index) h = h
@@ -153,7 +155,8 @@ begins_of before segment none fault h = none fault (of_start before segment faul
 pub faultless_of : (before : Option Run) (segment : Recording) → HasNoFaultAfter before segment → IsFaultlessFrom (begins_in before segment) segment
 faultless_of before segment none fault h = none fault (within before segment fault h)
 
-module _ (before : Option Run) (segment : Recording) (start : Space) (is : start ≡ begins_in before segment) (begins : BeginsRight (space_before before) segment) where
+module _ (before : Option Run) (segment : Recording) (start : Space) (is : start ≡ begins_in before segment)
+    (begins : BeginsRight (space_before before) segment) where
   pub sound_after : HasNoFaultBehind before start segment → HasRightTouches before start segment → IsSoundAfter before segment
   sound_after none right = record {
     faultless = λ fault h. none fault (subst (λ s. HasFaultBehind before s segment fault) (sym is) (behind_start before segment fault begins h));
@@ -173,7 +176,8 @@ pub refused_begin : (one other : Option Space) (segment : Recording) (fail : Fai
 refused_begin one other segment fail same wrong = subst (λ (b : Option Space). IfRefused (BeginsWrong b segment) fail) same wrong
 
 -- the first fault of the start is the first of all
-pub start_first : (before : Option Run) (segment : Recording) (fault : Fault) → BeginsWrong (space_before before) segment fault → IsFirstAfter before segment fault
+pub start_first : (before : Option Run) (segment : Recording) (fault : Fault) → BeginsWrong (space_before before) segment fault
+    → IsFirstAfter before segment fault
 start_first before segment fault wrong = record { holds = of_start before segment fault wrong.holds; none_earlier = none } where
   late : (other : Fault) → Earlier segment other fault → pass_of other ≤ 1
   late other less =

@@ -97,7 +97,8 @@ no_update_is_first trace place (NotAnUpdate j) among earlier = let h = lower_num
 no_update_is_first trace place (PlacedTwice j) among earlier = let h = lower_number 3 j 6 place 5 earlier among in absurd (omega arith)
 no_update_is_first trace place fault among earlier = absurd among
 
-twice_is_first : (trace : Recording) (place : ℕ) (other : Fault) → (HasFaultOn no_pages trace (NotAnUpdate place) → ⊥) → IsLogFaultAt place other → HasFaultOn no_pages trace other
+twice_is_first : (trace : Recording) (place : ℕ) (other : Fault) → (HasFaultOn no_pages trace (NotAnUpdate place) → ⊥)
+    → IsLogFaultAt place other → HasFaultOn no_pages trace other
     → Earlier trace other (PlacedTwice place) → ⊥
 twice_is_first trace place (NotAnUpdate j) update among holds earlier = update (subst (λ k. HasFaultOn no_pages trace (NotAnUpdate k)) among holds)
 twice_is_first trace place (PlacedTwice j) update among holds earlier = let h = lower_number 3 j 6 place 6 earlier among in absurd (omega arith)

@@ -49,7 +49,8 @@ placed_is_first trace index (NotPlaced j) among earlier = let h = lower_number 4
 placed_is_first trace index (PastLog j) among earlier = let h = lower_number 4 j 8 index 7 earlier among in absurd (omega arith)
 placed_is_first trace index fault among earlier = absurd among
 
-past_is_first : (trace : Recording) (index : ℕ) (other : Fault) → (HasFaultOn no_pages trace (NotPlaced index) → ⊥) → IsPositionFaultAt index other → HasFaultOn no_pages trace other
+past_is_first : (trace : Recording) (index : ℕ) (other : Fault) → (HasFaultOn no_pages trace (NotPlaced index) → ⊥)
+    → IsPositionFaultAt index other → HasFaultOn no_pages trace other
     → Earlier trace other (PastLog index) → ⊥
 past_is_first trace index (NotPlaced j) none among holds earlier = none (subst (λ k. HasFaultOn no_pages trace (NotPlaced k)) among holds)
 past_is_first trace index (PastLog j) none among holds earlier = let h = lower_number 4 j 8 index 8 earlier among in absurd (omega arith)

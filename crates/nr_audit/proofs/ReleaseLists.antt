@@ -224,13 +224,16 @@ first_of_list before start segment releases index d are (release, at, wrong, bel
           ]
 
 -- what is found, by its call number
-module _ (before : Option Run) (start : Space) (segment : Recording) (releases : List Release) (are : AreReleasesBelow segment (length segment.events) releases) where
+module _ (before : Option Run) (start : Space) (segment : Recording) (releases : List Release)
+    (are : AreReleasesBelow segment (length segment.events) releases) where
   abbrev number_of : Option ℕ → Option ℕ
   number_of found = option_map (λ (release : Release). release.made) (option_and_then (slice_get releases) found)
 
   pub none_found : (found number : Option ℕ) → FindsReachable before start segment releases found → number ≡ number_of found
       → IfNone number (HasRightReleases before start segment)
-  none_found None number finds is = subst (λ (o : Option ℕ). IfNone o (HasRightReleases before start segment)) (sym is) (all_right before start segment releases are finds)
+  none_found None number finds is =
+      subst (λ (o : Option ℕ). IfNone o (HasRightReleases before start segment)) (sym is)
+      (all_right before start segment releases are finds)
   none_found (Some index) number finds is =
       let some : number ≡ Some finds.0.made = is ∙ ap (option_map (λ (t : Release). t.made)) finds.1 in
       subst (λ (o : Option ℕ). IfNone o (HasRightReleases before start segment)) (sym some) tt

@@ -63,7 +63,8 @@ record Lies (segment : Recording) (made answered : ℕ) (touch : Touch) : Type 0
   pub replies : option_and_then reply_in (slice_get segment.events answered) ≡ Some (record { call = call; at = at; answer = touch.answer })
 
 lies_by : (segment : Recording) (made answered : ℕ) (touch : Touch) (asked replied : Option Event) → slice_get segment.events made ≡ asked
-    → slice_get segment.events answered ≡ replied → touch_by made answered (known_when segment made) asked replied ≡ Some touch → Lies segment made answered touch
+    → slice_get segment.events answered ≡ replied → touch_by made answered (known_when segment made) asked replied ≡ Some touch
+    → Lies segment made answered touch
 lies_by segment made answered touch (Some (events.Touch replica thread address mode access)) (Some (events.Reply call at answer)) a r e =
     let same : record { made = made; answered = answered; known = known_when segment made; address = address; mode = mode; access = access; answer = answer }
     ≡ touch = cc in
@@ -283,13 +284,15 @@ first_of_list before start segment touches index d are (touch, at, wrong, below)
           ]
 
 -- what is found, by its call number
-module _ (before : Option Run) (start : Space) (segment : Recording) (touches : List Touch) (are : AreTouchesBelow segment (length segment.events) touches) where
+module _ (before : Option Run) (start : Space) (segment : Recording) (touches : List Touch)
+    (are : AreTouchesBelow segment (length segment.events) touches) where
   abbrev number_of : Option ℕ → Option ℕ
   number_of found = option_map (λ (touch : Touch). touch.made) (option_and_then (slice_get touches) found)
 
   pub none_found : (found number : Option ℕ) → FindsStale before start segment touches found → number ≡ number_of found
       → IfNone number (HasRightTouches before start segment)
-  none_found None number finds is = subst (λ (o : Option ℕ). IfNone o (HasRightTouches before start segment)) (sym is) (all_right before start segment touches are finds)
+  none_found None number finds is =
+      subst (λ (o : Option ℕ). IfNone o (HasRightTouches before start segment)) (sym is) (all_right before start segment touches are finds)
   none_found (Some index) number finds is =
       let some : number ≡ Some finds.0.made = is ∙ ap (option_map (λ (t : Touch). t.made)) finds.1 in
       subst (λ (o : Option ℕ). IfNone o (HasRightTouches before start segment)) (sym some) tt

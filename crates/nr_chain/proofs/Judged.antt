@@ -68,7 +68,8 @@ ends_so counts piece count some within (Right own order met new) (is, counted) =
     (subst (λ n. 0 < n) (sym is) some, subst (λ n. n ≤ length piece) (sym is) within, counted)
 ends_so counts piece count some within (Wrong fault) is = tt
 
-pub judged_within : {E : Type 0} (counts : Bool) (last : Option Last) (begun : Bool) (feed new : FedSegment) (piece : List ℕ) (count : ℕ) (result : Result Step E)
+pub judged_within : {E : Type 0} (counts : Bool) (last : Option Last) (begun : Bool) (feed new : FedSegment) (piece : List ℕ) (count : ℕ)
+    (result : Result Step E)
     → IsBetween last begun feed → FeedsSegment feed piece new (Ok count) → IsWhole new → IfOk result (EndsAt counts count)
     → IfOk result (EndsWithin counts piece)
 judged_within counts last begun feed new piece count result old feeds whole h =

@@ -179,7 +179,8 @@ releases_behind start first [] rest segment right behind touched events e releas
     let here : events ≡ length first.trace.events = omega (arith, e) in
     touched.1 release has
     (wrong_behind (run_of start first) segment.trace release
-    (wrong_first start (both first segment) rest (right_with_next start first segment rest right behind) (right_behind_next start first segment rest right behind)
+    (wrong_first start (both first segment) rest (right_with_next start first segment rest right behind)
+    (right_behind_next start first segment rest right behind)
     (release_behind (length first.trace.events) release) (omega (arith, low, long))
     (subst (λ (n : ℕ). IsWrongRelease None start (joined first (segment ∷ rest)).trace (release_behind n release)) here wrong)))
 releases_behind start first (other ∷ front) rest segment right behind touched events e release has wrong =

@@ -104,7 +104,8 @@ module _ (changes : List Left) (start : Space) (segment : Recording) (event : �
   behind_run : (came : ChainState) (seen : Seen) → IsSeen came seen → start ≡ end_of came.run → segment.layout ≡ came.run.trace.layout
       → changes ≡ seen.tail.changes.items → IsReachedFrom (Some came.run) start segment (release_at event given) address → ⊥
   behind_run came seen kept ends layout same reached =
-      by_part (in_time_parts came.run.start came.run.trace segment layout kept.tail.orderly reached.touch (found_in_time came.run.start (joined_traces came.run.trace segment)
+      by_part (in_time_parts came.run.start came.run.trace segment layout kept.tail.orderly reached.touch
+      (found_in_time came.run.start (joined_traces came.run.trace segment)
       (touch_behind (length came.run.trace.events) (length came.run.trace.log) reached.touch) reached.phys reached.finds reached.right)) where
         by_part : IsAnsweredInTime (end_of came.run) segment reached.touch
             ⊎ ((page : Option Page)

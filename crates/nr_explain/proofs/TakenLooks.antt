@@ -69,7 +69,8 @@ module _ {depth : Depth} {s t : Space} (a : ℕ) (fits : IsSpace depth s) (also 
     of_page (Some u) p = record { page = u; was = p; gone = λ it. gone (look_still u p it) }
 
 pub ends_between : (start : Space) (segment : Recording) (address : ℕ) (with_page : Bool) (place : ℕ)
-    → IsSpace segment.layout.depth (space_from start segment (take place segment.log)) → IsSpace segment.layout.depth (space_from start segment (take (place + 1) segment.log))
+    → IsSpace segment.layout.depth (space_from start segment (take place segment.log))
+    → IsSpace segment.layout.depth (space_from start segment (take (place + 1) segment.log))
     → EndsBetween with_page (looks_from start segment address place) (looks_from start segment address (place + 1))
     ↔ EndsFinding start segment address with_page place
 ends_between start segment address true place fits also = (page_taken address fits also, look_taken address fits also)

@@ -14,7 +14,8 @@ calls_twice m n (call ∷ calls) = ap₂ (λ (x : ℕ) (xs : List ℕ). x ∷ xs
 
 event_twice : (m n p q : ℕ) (event : Event) → event_behind (m + n) (p + q) event ≡ event_behind m p (event_behind n q event)
 event_twice m n p q (Reply call at answer) =
-    ap₂ (λ (c a : ℕ). Reply c a answer) (let it : (m + n) + call ≡ m + (n + call) = omega arith in it) (let it : (p + q) + at ≡ p + (q + at) = omega arith in it)
+    ap₂ (λ (c a : ℕ). Reply c a answer) (let it : (m + n) + call ≡ m + (n + call) = omega arith in it)
+    (let it : (p + q) + at ≡ p + (q + at) = omega arith in it)
 event_twice m n p q _ = refl
 
 events_twice : (m n p q : ℕ) (events : List Event) → map (event_behind (m + n) (p + q)) events ≡ map (event_behind m p) (map (event_behind n q) events)
@@ -35,7 +36,8 @@ module _ (first second third : Recording) where
       ap (λ (n : ℕ). (first.log ++ calls_behind (length first.events) second.log) ++ calls_behind n third.log) (many_events first second)
       ∙ ap (λ (calls : List ℕ). (first.log ++ calls_behind (length first.events) second.log) ++ calls)
       (calls_twice (length first.events) (length second.events) third.log)
-      ∙ append_assoc first.log (calls_behind (length first.events) second.log) (calls_behind (length first.events) (calls_behind (length second.events) third.log))
+      ∙ append_assoc first.log (calls_behind (length first.events) second.log)
+      (calls_behind (length first.events) (calls_behind (length second.events) third.log))
       ∙ ap (λ (calls : List ℕ). first.log ++ calls)
       (sym (map-append (λ (call : ℕ). length first.events + call) second.log (calls_behind (length second.events) third.log)))
 

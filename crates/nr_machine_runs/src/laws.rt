@@ -26,8 +26,8 @@ pub fn schedules_are_histories()
         (log_after nodes (history means nodes acts)) }
 {}
 
-/// No fault, but perhaps one of the format, holds of the recording of a run, whatever the schedule, where each call is recorded before its update or its read begins and
-/// each reply after it. Its order is legal, a linearization of the calls, and each dump fits it.
+/// No fault, but perhaps one of the format, holds of the recording of a run, whatever the schedule. Each call is recorded before its update
+/// or its read begins, and each reply after it. Its order is legal, a linearization of the calls, and each dump fits it.
 pub fn recordings_of_runs_have_no_fault()
     ensures faultless { (trace : Recording) → IsRecordingOfRun trace → IsFaultless trace }
     ensures legal { (trace : Recording) → IsRecordingOfRun trace

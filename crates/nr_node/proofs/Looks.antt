@@ -67,7 +67,8 @@ pub record TookAll (depth : Depth) (replicas : ℕ) (before : View) (n : ℕ) (e
 -- those above a local tail, and of them those that are new
 above_local : (depth : Depth) (replicas : ℕ) (a c : View) (entries rest : List LogEntry) (local ahead n : ℕ) → IsLogHistory depth replicas c.seen
     → (log_after replicas c.seen).entries ≡ (log_after replicas a.seen).entries ++ rest → c.owns ≡ a.owns
-    → taken_by replicas c ≤ tail (log_after replicas c.seen) → taken_by replicas a ≤ taken_by replicas c → entries ≡ drop local (log_after replicas c.seen).entries
+    → taken_by replicas c ≤ tail (log_after replicas c.seen) → taken_by replicas a ≤ taken_by replicas c
+    → entries ≡ drop local (log_after replicas c.seen).entries
     → local + ahead ≡ n → n ≤ tail (log_after replicas a.seen) → TookAll depth replicas a n (drop ahead entries) c
 above_local depth replicas a c entries rest local ahead n history more owns low risen are sum written =
     let all = (log_after replicas c.seen).entries in
@@ -163,4 +164,5 @@ peeked_all depth replicas a b entries ahead n looked owner fetched sum written =
     let here : local_of log (replica_of a) ≡ taken_by replicas a =
     ap (λ r. local_of log r) (sym (looked_replica depth replicas a b looked)) ∙ looked_taken depth replicas a b looked owner in
     above_local depth replicas a b entries on.entries.0 (taken_by replicas a) ahead n looked.is_history on.entries.1 looked.owns
-    ((looked_fits depth replicas a b looked).written (replica_of b)) (omega (arith, looked_taken depth replicas a b looked owner)) (fetched (replica_of a) owner ∙ ap (λ k. drop k log.entries) here) sum written
+    ((looked_fits depth replicas a b looked).written (replica_of b)) (omega (arith, looked_taken depth replicas a b looked owner))
+    (fetched (replica_of a) owner ∙ ap (λ k. drop k log.entries) here) sum written

@@ -301,7 +301,8 @@ all_raised depth tables base replica (d ∷ ds) log are low many =
 -- ---- settling
 
 -- the first node's pass heard of all that the others, then the handed ones, then nobody had seen, and then the rest of the log was added
-pub settled : (depth : Depth) (replicas places tables base : ℕ) (handed passes others : List Known) (first : NodeState) (dumps : List Image) (calls all : List ℕ)
+pub settled : (depth : Depth) (replicas places tables base : ℕ) (handed passes others : List Known) (first : NodeState) (dumps : List Image)
+    (calls all : List ℕ)
     (a b c : View) → IsNode depth replicas first → first.base ≡ base → passes ≡ first.known ∷ others
     → HasHeard depth replicas first.known.view a → All (λ pass. StartsWith a.seen pass.view.seen) others
     → HasHeard depth replicas a b → All (λ pass. StartsWith b.seen pass.view.seen) handed
@@ -312,7 +313,8 @@ pub settled : (depth : Depth) (replicas places tables base : ℕ) (handed passes
     → All (HasSeenOwnAdvances c.seen) others
     → tail (log_after replicas c.seen) ≤ places
     → IsSettled depth replicas places tables base handed all dumps
-settled depth replicas places tables base handed passes others first dumps calls all a b c is_node first_base split heard_a begin_a heard_b begin_b heard_c are own
+settled depth replicas places tables base handed passes others first dumps calls all a b c is_node first_base split heard_a begin_a heard_b
+    begin_b heard_c are own
     count first_calls all_are known ends =
     let v = first.known.view in
     let ab = heard_twice heard_b heard_c in

@@ -73,7 +73,8 @@ goes_on_with p more [] before begun = nothing p more before begun
 goes_on_with p more (byte ∷ text) before begun = by_test p more text byte (p byte) refl (goes_on_with p more text) before begun
 
 -- a piece without an end of a line
-pub same_line : (old piece text : List ℕ) (before : List (List ℕ)) → HasNoEnd (old ++ piece) → EndsIn text before old → EndsIn (text ++ piece) before (old ++ piece)
+pub same_line : (old piece text : List ℕ) (before : List (List ℕ)) → HasNoEnd (old ++ piece) → EndsIn text before old
+    → EndsIn (text ++ piece) before (old ++ piece)
 same_line old piece text before none is =
     goes_on_with (λ byte. byte == 10) piece text before old is
     ∙ ap (λ (them : List (List ℕ)). before ++ them) (slice_split_none (λ byte. byte == 10) (old ++ piece) none)

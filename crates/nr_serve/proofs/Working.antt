@@ -142,7 +142,8 @@ module _ (clock : ClockId) (of : Since) (thread : ℕ) (script : List Query) (do
       All-push IsTrueNow old call
       (λ k d lt.
       let made = get_or old k d in
-      true_stays clock.layout of.from (log_after clock.layout.replicas pass.view.seen) (log_after clock.layout.replicas pass'.view.seen) made.number made.request
+      true_stays clock.layout of.from (log_after clock.layout.replicas pass.view.seen) (log_after clock.layout.replicas pass'.view.seen)
+      made.number made.request
       made.said on (next.under_way.true_calls k d lt))
       next.called.true_call
 

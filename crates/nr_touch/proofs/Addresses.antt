@@ -123,7 +123,8 @@ module _ (before : Option Run) (start : Space) (segment : Recording) (earlier : 
   }
 
   pub finds_reached : (seen : List Seen) (least : Option ℕ)
-      → ((can : IsReachable before start segment release) → (s : Seen) × Contains seen s × LeadsBelow start segment earlier release can.touch.address s.page s.place)
+      → ((can : IsReachable before start segment release)
+      → (s : Seen) × Contains seen s × LeadsBelow start segment earlier release can.touch.address s.page s.place)
       → FindsAddress before start segment earlier release seen least → FindsReached before start segment release least
   finds_reached seen None leads none = λ can. let (s, has, below) = leads can in none (s, has, below.0)
   finds_reached seen (Some address) leads found = record {

@@ -51,7 +51,8 @@ pub count_more : (p : ℕ → Bool) (n : ℕ) → count_by p (below (n + 1)) ≡
 count_more p n = let next : n + 1 ≡ suc n = omega arith in ap (λ m. count_by p (below m)) next ∙ count_append p (below n) n
 
 -- numbers that fail the test add nothing
-pub count_same : (p : ℕ → Bool) (first more : ℕ) → ((n : ℕ) → first ≤ n → n < first + more → p n ≡ false) → count_by p (below (first + more)) ≡ count_by p (below first)
+pub count_same : (p : ℕ → Bool) (first more : ℕ) → ((n : ℕ) → first ≤ n → n < first + more → p n ≡ false)
+    → count_by p (below (first + more)) ≡ count_by p (below first)
 count_same p first zero none = let same : first + 0 ≡ first = omega arith in ap (λ m. count_by p (below m)) same
 count_same p first (suc more) none =
     let next : first + suc more ≡ (first + more) + 1 = omega arith in
@@ -81,7 +82,8 @@ no_more b count new f sum = subst (λ (x : Bool). new ≡ count + cond x 1 0) (s
 -- the second number isn't below the first, where a test says so
 pub not_below : (a b : ℕ) (r : Bool) → Decides r (a < b) → Decides (not r) (b ≤ a)
 not_below a b r says = Decides-like (not r)
-    (λ (none : a < b → ⊥). elim (cases_lt a b) [ inl less ↦ absurd (none less) | inr more ↦ more ]) (λ more less. omega (arith, more, less)) (Decides-not r says)
+    (λ (none : a < b → ⊥). elim (cases_lt a b) [ inl less ↦ absurd (none less) | inr more ↦ more ]) (λ more less. omega (arith, more, less))
+    (Decides-not r says)
 
 -- two tests that pass alike are one
 pub one_test : (a b : Bool) → (a ≡ true → b ≡ true) → (b ≡ true → a ≡ true) → a ≡ b

@@ -77,7 +77,8 @@ lowered_more pages old b new i some h many same how = record {
         omega (arith, before, first, then)
   ];
   attained = λ k low l. elim (cases_eq k i) [
-    | inl here ↦ subst (λ n. (j : ℕ) × (n ≤ j) × (j < length old) × (get_or pages j 0 ≡ get_or pages n 0) × (get_or new n 0 ≡ get_or old j 0)) (sym here) at_begin
+    | inl here ↦ subst (λ n. (j : ℕ) × (n ≤ j) × (j < length old) ×
+        (get_or pages j 0 ≡ get_or pages n 0) × (get_or new n 0 ≡ get_or old j 0)) (sym here) at_begin
     | inr other ↦ let (j, from, within, own, is) = h.attained k (omega arith) l in (j, from, within, own, same k other ∙ is)
   ];
 } where

@@ -286,7 +286,8 @@ module _ (start : Space) (segment : Recording) (own earlier : List PlacedChange)
     after_all none =
         let low = allowed.within in
         let here : page_at space touch.address ≡ Some page =
-        sym (at_end start segment own are space depth is_space whole touch.address) ∙ sym (same_within start segment touch.address n (length segment.log) low none) ∙ at in
+        sym (at_end start segment own are space depth is_space whole touch.address)
+        ∙ sym (same_within start segment touch.address n (length segment.log) low none) ∙ at in
         let (holds, covered) = (page_at_means is_space touch.address page).0 here in
         let aligned = (is_space.well_formed page holds).aligned in
         record {

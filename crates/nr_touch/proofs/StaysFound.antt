@@ -32,7 +32,9 @@ no_stays changes seen stays k s event l at fits alive = absurd (omega (arith, l)
 
 pub one_stay_more : (changes : List PlacedChange) (seen : List Seen) (stays more : List Stay) (end : ℕ) (d : Seen) (from until : ℕ) → end < length seen
     → ((event : ℕ) → event < 2 ^ 32 → IsAlive changes (get_or seen end d) event → (from ≤ event) × (event ≤ until))
-    → ((page : Page) (place event : ℕ) → HasStay (stays ++ record { page = (get_or seen end d).page; place = (get_or seen end d).place; from = from; until = until } ∷ []) page place event
+    → ((page : Page) (place event : ℕ) → HasStay
+    (stays ++ record { page = (get_or seen end d).page; place = (get_or seen end d).place; from = from; until = until } ∷ []) page place
+    event
     → HasStay more page place event)
     → HaveStaysTo changes seen stays end → HaveStaysTo changes seen more (end + 1)
 one_stay_more changes seen stays more end d from until less spans kept have k s event l at fits alive =

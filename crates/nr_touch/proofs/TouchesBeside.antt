@@ -29,7 +29,8 @@ use Rattle.nr_touch.proofs.Sighted.{contains_map, map_contains}
 use Rattle.nr_touch.proofs.Overs.{any_below, not_below, over_is, over_means}
 use Rattle.nr_touch.proofs.Sizes.{by_size, covered_numbered}
 
-changes_means : (start : Space) (trace : Recording) (address place : ℕ) → (changes_look start trace address place ≡ true) ↔ ChangesLook start trace address place
+changes_means : (start : Space) (trace : Recording) (address place : ℕ)
+    → (changes_look start trace address place ≡ true) ↔ ChangesLook start trace address place
 changes_means start trace address place =
     Decides-not _ (look_means (page_after start trace address place) (page_after start trace address (place + 1)))
 
@@ -56,7 +57,8 @@ module _ (changes : List PlacedChange) (numbered : (c : PlacedChange) → Contai
   -- a search in the columns of one size
   pub open_of_size : (updates : Lives) (size : Size) (number : ℕ) → AreOpenings changes updates → number ≡ number_at address size
       → IsMet updates number first last → IsOpenWithin changes address first last
-  open_of_size updates size number are is met = within_of size ((are (number_at address size) first last).1 (subst (λ (n : ℕ). IsMet updates n first last) is met))
+  open_of_size updates size number are is met =
+      within_of size ((are (number_at address size) first last).1 (subst (λ (n : ℕ). IsMet updates n first last) is met))
 
   met_of_size : (updates : Lives) (size : Size) (number : ℕ) → AreOpenings changes updates → number ≡ number_at address size
       → IsOpenOf size → IsMet updates number first last

@@ -116,8 +116,7 @@ right_verdict bytes piece orders explain old new count order met telling here fe
       some,
       within,
       right_so_far bytes piece orders old new count order met here feeds,
-      right_judged bytes piece orders old new count order met here feeds,
-      told,
+      (right_judged bytes piece orders old new count order met here feeds, told),
     )
 
 front_none : (front behind : List ℕ) → front ++ behind ≡ [] → front ≡ []

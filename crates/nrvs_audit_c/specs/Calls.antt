@@ -9,10 +9,11 @@ use Rattle.nr_chain.specs.Headline.{IsRightChain}
 use Rattle.audit_texts.specs.ChainExplained.{IsChainExplained}
 use Rattle.nrvs_audit_c.specs.Numbers.{end_numbers, finding_of}
 use Rattle.nrvs_audit_c.specs.Told.{array_after, with_items}
-use Rattle.nrvs_audit_c.specs.Chains.{IsFed, IsOver}
+use Rattle.nrvs_audit_c.specs.Chains.{IsExplained, IsFed, IsOver}
 use Rattle.nrvs_audit_c.specs.declared.finding.Finding.{Finding}
 use Rattle.nrvs_audit_c.specs.declared.handle.Handle.{Handle}
 use Rattle.nrvs_audit_c.specs.declared.handle.TheConstants.{MADE}
+use Rattle.nrvs_audit_c.specs.declared.judging.Ended.{Ended}
 use Rattle.nrvs_audit_c.specs.declared.judging.Judging.{Judging}
 use Rattle.nrvs_audit_c.specs.declared.judging.Said.{Said}
 use Rattle.nrvs_audit_c.specs.declared.judging.Said.TheVariants as said
@@ -58,6 +59,10 @@ pub record TellsText (as_json : Bool) (bytes : List ℕ) (status count : ℕ) (o
   pub is_explained : IsChainExplained as_json bytes told status
   pub count_is : count ≡ length told
   pub array_is : new ≡ with_items told old
+
+-- how the chain ends, and what explains it
+abbrev pub HasEnded : List ℕ → List (List ℕ) → Bool → Ended → Type 0
+HasEnded bytes orders explain ended = GoesOnSo None bytes orders ended.found × IsExplained bytes explain ended.explanation
 
 -- what is said of a piece
 abbrev pub IsSaid : List ℕ → List (List ℕ) → Bool → List ℕ → Said → Type 0

@@ -2,7 +2,7 @@
 
 ghost use Rattle.std.specs.Prelude.{◌≡◌, ◌≢◌, ◌≤◌, ℕ, List, Bool, IfOk};
 ghost use Rattle.nr_explain.specs.ChainExplanation.{IsExplanationOfChain};
-ghost use Rattle.nrvs_audit_c.specs.Calls.{IsSaid, TellsText};
+ghost use Rattle.nrvs_audit_c.specs.Calls.{HasEnded, IsSaid, TellsText};
 ghost use Rattle.nrvs_audit_c.specs.Chains.{HasJudged, IsTold};
 
 use crate::finding::Finding;
@@ -15,6 +15,7 @@ use audit_texts::told_chain;
 use nr_audit::Verdict;
 use nr_chain::{Chain, Step};
 use nr_explain::ChainExplanation;
+use nr_trace::Fault;
 use std::alloc::Global;
 use std::mem::replace;
 use vs_types::Memory;
@@ -35,6 +36,15 @@ enum Said {
     More(Judging),
     /// So many bytes at the front of the piece show this of the segment.
     Verdict(usize, Verdict, Judging),
+}
+
+/// How a chain ends.
+#[derive(Drop)]
+struct Ended {
+    /// The fault, if there is one.
+    found: Option<Fault>,
+    /// What explains it, if that was asked for.
+    explanation: Option<ChainExplanation>,
 }
 
 /// Feeds a piece to an open chain, up to the end of a segment.
@@ -68,6 +78,19 @@ fn judge_piece(
             Ok(Said::Verdict(piece.len(), Verdict::No(fault), judging))
         }
     }
+}
+
+/// What is found at the end of an open chain, and what explains it.
+fn judge_end(chain: Chain, telling: Option<Telling>) -> Result<Ended, Memory>
+    ensures { (bytes : List ℕ) (orders : List (List ℕ)) (explain : Bool)
+        → HasJudged bytes orders chain → IsTold bytes explain telling
+        → IfOk result (HasEnded bytes orders explain) }
+{
+    let explanation = end_told(telling)?;
+    Ok(Ended {
+        found: chain.end(),
+        explanation,
+    })
 }
 
 /// Writes the text of an explanation, if there is room for it, and how many bytes it has.
@@ -167,15 +190,14 @@ impl Judging {
                 *self = Judging::Over(explanation);
                 OVER
             }
-            Judging::Open(chain, telling) => {
-                let Ok(explanation) = end_told(telling) else {
-                    return NO_MEMORY;
-                };
-                *self = Judging::Over(explanation);
-                let found = chain.end();
-                *finding = Finding::of_end(found);
-                end_status(found)
-            }
+            Judging::Open(chain, telling) => match judge_end(chain, telling) {
+                Err(Memory) => NO_MEMORY,
+                Ok(ended) => {
+                    *self = Judging::Over(ended.explanation);
+                    *finding = Finding::of_end(ended.found);
+                    end_status(ended.found)
+                }
+            },
         }
     }
 

@@ -14,13 +14,15 @@ use Rattle.nrvs_plan_c.proofs.CallKinds.{good_in}
 
 -- its request is one
 pub good_begun : (plan : Plan) → HasBegun plan → IsRequest (target_in plan.call) (request_in plan.call)
-good_begun plan begun = good_in plan.call plan.way.phase (request_in plan.call) (by (phase_in plan.way.phase) begun.at_root.waits begun.at_root.sound.waits) where
-  by : (phase : Phase) → status_in phase ≡ 32 → IsWaiting phase (planner_in plan) → IsRequest (target_at plan.way.phase plan.call) (request_in plan.call)
-  by phases.Descent is waits = waits.request
-  by phases.Search is waits = waits.request
-  by phases.Growth is waits = absurd (omega (arith, is))
-  by phases.Division is waits = absurd (omega (arith, is))
-  by phases.Ended is waits = absurd (omega (arith, is))
+good_begun plan begun =
+    good_in plan.call plan.way.phase (request_in plan.call)
+    (by (phase_in plan.way.phase) begun.at_root.waits begun.at_root.sound.waits) where
+      by : (phase : Phase) → status_in phase ≡ 32 → IsWaiting phase (planner_in plan) → IsRequest (target_at plan.way.phase plan.call) (request_in plan.call)
+      by phases.Descent is waits = waits.request
+      by phases.Search is waits = waits.request
+      by phases.Growth is waits = absurd (omega (arith, is))
+      by phases.Division is waits = absurd (omega (arith, is))
+      by phases.Ended is waits = absurd (omega (arith, is))
 
 pub begun_as : {run : Run} {target there : Target} {request asked : Request} {bytes : ℕ} → there ≡ target → asked ≡ request
     → HasBegunRange there asked bytes run → HasBegunRange target request bytes run

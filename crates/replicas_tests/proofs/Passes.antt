@@ -18,4 +18,5 @@ new_are_of log replicas others =
 pub still_of : (log : TableId) (n : ℕ) (new items : List Known) → All (IsOf log) new → All (IsOf log) items
     → All (IsOf log) (take n (new ++ drop (length new) items))
 still_of log n new items all before =
-    All-take (IsOf log) n (new ++ drop (length new) items) (All-append (IsOf log) new (drop (length new) items) all (All-drop (IsOf log) (length new) items before))
+    All-take (IsOf log) n (new ++ drop (length new) items)
+    (All-append (IsOf log) new (drop (length new) items) all (All-drop (IsOf log) (length new) items before))

@@ -98,7 +98,8 @@ pub from_within : (flushes : List Flush) (kept : Kept) → IsDroppedByOne (from_
 from_within [] kept one = one
 from_within (flush ∷ flushes) kept one = by (from_within flushes kept) (drops_tables flush) one
   where
-    by : (IsDroppedByOne (from_tables flushes) kept → IsDroppedByOne flushes kept) → (b : Bool) → IsDroppedByOne (if b then flush ∷ flushes else from_tables flushes) kept → IsDroppedByOne (flush ∷ flushes) kept
+    by : (IsDroppedByOne (from_tables flushes) kept → IsDroppedByOne flushes kept) → (b : Bool)
+        → IsDroppedByOne (if b then flush ∷ flushes else from_tables flushes) kept → IsDroppedByOne (flush ∷ flushes) kept
     by rest true is = is
     by rest false is = inr (rest is)
 
@@ -184,7 +185,8 @@ pub tables_first : (flushes : List Flush) (calls : List Call) → from_tables fl
 tables_first flushes [] first have = tt
 tables_first flushes (call ∷ calls) first have = by (tables_first flushes calls first have.1) (drops_tables call.plan.flush)
   where
-    by : HaveAllInOrder flushes calls → (b : Bool) → ((kept : Kept) → IsDropped call.plan.flush kept → IsDroppedByOne (if b then from_tables flushes else flushes) kept)
+    by : HaveAllInOrder flushes calls → (b : Bool)
+        → ((kept : Kept) → IsDropped call.plan.flush kept → IsDroppedByOne (if b then from_tables flushes else flushes) kept)
         × HaveAllInOrder (if b then from_tables flushes else flushes) calls
     by rest true = subst
         (λ (fs : List Flush). ((kept : Kept) → IsDropped call.plan.flush kept → IsDroppedByOne fs kept) × HaveAllInOrder fs calls)
@@ -198,7 +200,8 @@ no_tables [] level region number rights none one = one
 no_tables (flush ∷ flushes) level region number rights none one =
     by (no_tables flushes level region number rights) (drops_tables flush) refl none
   where
-    by : (from_tables flushes ≡ [] → IsDroppedByOne flushes (PagingEntry level region number rights) → ⊥) → (b : Bool) → drops_tables flush ≡ b → (if b then flush ∷ flushes else from_tables flushes) ≡ [] → ⊥
+    by : (from_tables flushes ≡ [] → IsDroppedByOne flushes (PagingEntry level region number rights) → ⊥) → (b : Bool)
+        → drops_tables flush ≡ b → (if b then flush ∷ flushes else from_tables flushes) ≡ [] → ⊥
     by rest true is e = cc
     by rest false is e = ⊎_elim
         (λ now. let yes : true ≡ false = sym (drops_some flush level region number rights now) ∙ is in cc)
@@ -232,7 +235,8 @@ from_behind : (before flushes : List Flush) → from_tables before ≡ [] → fr
 from_behind [] flushes none = refl
 from_behind (flush ∷ before) flushes none = by (from_behind before flushes) (drops_tables flush) none
   where
-    by : (from_tables before ≡ [] → from_tables (before ++ flushes) ≡ from_tables flushes) → (b : Bool) → (if b then flush ∷ before else from_tables before) ≡ []
+    by : (from_tables before ≡ [] → from_tables (before ++ flushes) ≡ from_tables flushes) → (b : Bool)
+        → (if b then flush ∷ before else from_tables before) ≡ []
         → (if b then flush ∷ (before ++ flushes) else from_tables (before ++ flushes)) ≡ from_tables flushes
     by rest true e = cc
     by rest false e = rest e

@@ -35,9 +35,12 @@ pub record IsPageOn (size : Size) (base number : ℕ) : Type 0 where
   pub aligned : page_on size base number % bytes_of size ≡ 0
 
 pub is_page_on : (size : Size) (base number : ℕ) → base % bytes_of size ≡ 0 → index_at (level_of size) base + number < 512 → IsPageOn size base number
-is_page_on K4 base number aligned room = record { index = omega (arith, aligned, room); stretch = omega (arith, aligned, room); aligned = omega (arith, aligned) }
-is_page_on M2 base number aligned room = record { index = omega (arith, aligned, room); stretch = omega (arith, aligned, room); aligned = omega (arith, aligned) }
-is_page_on G1 base number aligned room = record { index = omega (arith, aligned, room); stretch = omega (arith, aligned, room); aligned = omega (arith, aligned) }
+is_page_on K4 base number aligned room =
+    record { index = omega (arith, aligned, room); stretch = omega (arith, aligned, room); aligned = omega (arith, aligned) }
+is_page_on M2 base number aligned room =
+    record { index = omega (arith, aligned, room); stretch = omega (arith, aligned, room); aligned = omega (arith, aligned) }
+is_page_on G1 base number aligned room =
+    record { index = omega (arith, aligned, room); stretch = omega (arith, aligned, room); aligned = omega (arith, aligned) }
 
 pub level_few : (size : Size) → (1 ≤ level_of size) × (level_of size ≤ 3)
 level_few K4 = (omega arith, omega arith)

@@ -37,7 +37,8 @@ use Rattle.vs_range.proofs.Sequence.{IsPaged}
 module _ (target : Target) (size : Size) (base count frame index : ℕ) (rights given : Rights) (words : List ℕ) (asked : IsRequest target (Protect base rights))
     (aligned : base % bytes_of size ≡ 0) (here : index ≡ index_at (level_of size) base) (room : index + count ≤ 512)
     (allows : intersection given rights ≡ rights)
-    (leaf : (number : ℕ) → number < count → (phys : ℕ) × (own : Rights) × (meaning (level_of size) (slice_index words (index + number)) ≡ entry.Leaf phys own)) where
+    (leaf : (number : ℕ) → number < count
+    → (phys : ℕ) × (own : Rights) × (meaning (level_of size) (slice_index words (index + number)) ≡ entry.Leaf phys own)) where
   abbrev level : ℕ
   level = level_of size
 

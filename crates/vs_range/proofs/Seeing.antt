@@ -223,7 +223,8 @@ module _ (memory : Memory) (range : RangePlanner) (awaits : AwaitsRange range) (
         longest = longest_as memory range words (map_run page bits count range.planner.number index) (Map page bits) request got ends;
         forgets = inl refl;
         right = λ space premise. subst (λ q. IsRunRight range.planner.target q memory space (map_run page bits count range.planner.number index)) (sym request)
-            (map_run_right range.planner.target page bits count range.planner.number index words range.planner.rights asked here (omega (arith, room.room, index_is, few)) room.allows absent (room.low count few) (room.phys count few) memory space got
+            (map_run_right range.planner.target page bits count range.planner.number index words range.planner.rights asked here
+            (omega (arith, room.room, index_is, few)) room.allows absent (room.low count few) (room.phys count few) memory space got
             (subst (λ a. IsAtTable range.planner.target memory space page.size a range.planner.number range.planner.rights) (sym place)
             (at_table page.size room.level space premise)));
       }
@@ -249,7 +250,9 @@ module _ (memory : Memory) (range : RangePlanner) (awaits : AwaitsRange range) (
     forgets = inr refl;
     right = λ space premise. subst (λ q. IsRunRight range.planner.target q memory space (protect_run size range.base rights count range.planner.number index))
         (sym request)
-        (protect_run_right range.planner.target size range.base count range.planner.number index rights range.planner.rights words (subst (IsRequest range.planner.target) request awaits.words.request) at.aligned (index_is ∙ ap (λ l. index_at l range.base) at.level)
+        (protect_run_right range.planner.target size range.base count range.planner.number index rights range.planner.rights words
+        (subst (IsRequest range.planner.target) request awaits.words.request) at.aligned
+        (index_is ∙ ap (λ l. index_at l range.base) at.level)
         room allows (leaves size index count at.level pages) memory space got (at_table size at.level space premise));
   }
 
@@ -278,7 +281,9 @@ module _ (memory : Memory) (range : RangePlanner) (awaits : AwaitsRange range) (
     forgets = inr refl;
     right = λ space premise. subst (λ q. IsRunRight range.planner.target q memory space (unmap_run size range.base count range.planner.number index))
         (sym request)
-        (unmap_run_right range.planner.target size range.base count range.planner.number index range.planner.rights words (subst (IsRequest range.planner.target) request awaits.words.request) at.aligned (index_is ∙ ap (λ l. index_at l range.base) at.level)
+        (unmap_run_right range.planner.target size range.base count range.planner.number index range.planner.rights words
+        (subst (IsRequest range.planner.target) request awaits.words.request) at.aligned
+        (index_is ∙ ap (λ l. index_at l range.base) at.level)
         room (leaves size index count at.level pages)
         (λ low. busy (subst (λ l. l < highest_link range.planner.target) (sym at.level) low)) memory space got (at_table size at.level space premise));
   }

@@ -197,7 +197,8 @@ module _ (target : Target) (request : Request) (base : ℕ) (given : Rights) (fl
     pub dropped : (kept : Kept) → IsDropped (flush number) kept → IsDroppedByOne flushes kept
     pub right : (memory : Memory) (space : Space) → EndAt target memory space level run.frame given (old number) (page_on run.size base number)
         → AreOld memory number
-        → Parts target (pages_on request run.size number) memory space [] (reply number) (bits number) None (if_new (store_of run words number)) (flush number) []
+        → Parts target (pages_on request run.size number) memory space [] (reply number) (bits number) None
+        (if_new (store_of run words number)) (flush number) []
 
   abbrev Calls : Memory → Space → ℕ → ℕ → List Store → Type 0
   Calls memory space number count stores = HasCalls target request run.size base run.frame given flushes memory space number count stores

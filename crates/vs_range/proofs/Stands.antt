@@ -23,7 +23,8 @@ use Rattle.vs_range.specs.Several.{IsDroppedByOne}
 
 -- a table that was unlinked, and may be kept still: its entries lead to no table, and the pages to which they lead are those of the memory, but
 -- for what the flushes drop
-pub record IsStale (depth : Depth) (root : ℕ) (memory : Memory) (flushes : List Flush) (gone : List ℕ) (level region number : ℕ) (rights : Rights) : Type 0 where
+pub record IsStale (depth : Depth) (root : ℕ) (memory : Memory) (flushes : List Flush) (gone : List ℕ) (level region number : ℕ)
+    (rights : Rights) : Type 0 where
   pub named : Contains gone number
   pub dropped : IsDroppedByOne flushes (PagingEntry level region number rights)
   pub ends : (address next : ℕ) (own : Rights) → 1 ≤ level → IsCanonical depth address → region_number level address ≡ region

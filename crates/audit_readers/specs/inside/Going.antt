@@ -58,7 +58,8 @@ pub record TakesSegments (run : Option Run) (style : Style) (old : ChainFed) (nu
 -- the whole block was taken, and its last segment isn't whole yet; or the next segment has a fault, whatever comes behind the block
 abbrev pub TakesBlock : Option Run → Style → ChainFed → ℕ → List ℕ → Option (List ℕ) → Option (List ℕ) → Option Totals → Taken → Type 0
 TakesBlock run style old number block before after known (More new count totals) =
-    (last : Option Run) × TakesSegments run style old number block last new.bytes count before after known totals × IsKeptOf last new.kept × IsShort last new.bytes
+    (last : Option Run) × TakesSegments run style old number block last new.bytes count before after known totals × IsKeptOf last new.kept
+    × IsShort last new.bytes
     × (count ≤ number + length block)
 TakesBlock run style old number block before after known (Wrong count fault) =
     (last : Option Run) × (rest : List ℕ) × (totals : Option Totals) × TakesSegments run style old number block last rest count before after known totals

@@ -10,7 +10,7 @@ use crate::chain::counts::{chain_counts_lines, chain_counts_value};
 use crate::chain::evidence::{segment_evidence_text, segment_evidence_value};
 use crate::chain::sentence::segment_sentence;
 use crate::chain::text::end_lines;
-use crate::usual::{push_usual, put_usual};
+use crate::usual::{push_sentence, put_usual};
 use nr_explain::{ChainCounts, ChainExplanation, SegmentEvidence};
 use nr_trace::Fault;
 use serde_json::{Map, Value, put};
@@ -36,9 +36,7 @@ fn push_shown(
         ≡ string_bytes text.old ++ shown_text fault shown.now) }
 {
     let sentence = segment_sentence(alloc, shown)?;
-    text.push_str(sentence.as_str())?;
-    text.push_str("\n")?;
-    push_usual(text, fault)?;
+    push_sentence(text, sentence.as_str(), fault)?;
     let lines = segment_evidence_text(alloc, shown)?;
     text.push_str(lines.as_str())
 }

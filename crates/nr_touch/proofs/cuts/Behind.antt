@@ -345,7 +345,8 @@ module _ (start : Space) (first second : Recording) (same_layout : second.layout
         0,
         record {
           within = omega arith;
-          flushed = λ place ends early. absurd (nowhere place (subst (λ (p : Option Page). EndsLook between second touch.address p place) (sym looks) ends) early);
+          flushed =
+              λ place ends early. absurd (nowhere place (subst (λ (p : Option Page). EndsLook between second touch.address p place) (sym looks) ends) early);
           not_foreseen = λ place changes late. omega arith;
         },
         answered ∙ ap (allow_in_page touch.address touch.mode touch.access) looks,

@@ -51,7 +51,8 @@ module _ (address : ℕ) (page : Option Page) where
 
   -- where the same looks are left behind others, and what ends these, the same are left of all
   same_behind : (front old new : List Left) → (IsLeft new address page ↔ IsLeft old address page)
-      → (IsLeft front address page → HasNoEnd new address page ↔ HasNoEnd old address page) → IsLeft (front ++ new) address page ↔ IsLeft (front ++ old) address page
+      → (IsLeft front address page → HasNoEnd new address page ↔ HasNoEnd old address page)
+      → IsLeft (front ++ new) address page ↔ IsLeft (front ++ old) address page
   same_behind front old new looks ends = (
     λ it. left_both front old (elim (left_parts front new it) [ inl own ↦ inl (looks.0 own) | inr before ↦ inr (before.0, (ends before.0).0 before.1) ]),
     λ it. left_both front new (elim (left_parts front old it) [ inl own ↦ inl (looks.1 own) | inr before ↦ inr (before.0, (ends before.0).1 before.1) ]),

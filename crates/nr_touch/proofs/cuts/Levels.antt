@@ -229,7 +229,8 @@ alike_more front rows address first then last one other is = record {
 
 module _ (front rows : List PlacedChange) (rise : (c d : PlacedChange) → Contains front c → Contains rows d → c.place < d.place) (touch : Touch) (finds : Bool)
     (told : (page : Option Page) → touch.answer ≡ allow_in_page touch.address touch.mode touch.access page → finds ≡ is_some page) (first : ℕ)
-    (past : IsPast rows (λ c. Covers touch.address c × (ended_at finds c < 4294967295)) first) (numbered : (c : PlacedChange) → Contains rows c → IsNumbered c) where
+    (past : IsPast rows (λ c. Covers touch.address c × (ended_at finds c < 4294967295)) first)
+    (numbered : (c : PlacedChange) → Contains rows c → IsNumbered c) where
   abbrev AnsweredParts : Type 0
   AnsweredParts = IsAnsweredBetween rows (Covers touch.address) touch first 4294967295 ⊎ ((first ≡ 0) × IsAnsweredSo front touch)
 

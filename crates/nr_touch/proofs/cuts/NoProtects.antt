@@ -63,8 +63,10 @@ pub each_ends : (trace : Recording) → IsRecording trace → HasCleanLog trace 
     → EachEnds start trace
 each_ends trace in_range clean plain start is a place changes =
     subst (λ (after : Option Page). Ends (page_after start trace a place) (page_after start trace a place) after) (sym next)
-    (step_ends trace.layout.depth trace.layout.tables (space_from start trace (take place trace.log)) (stays_space trace in_range start is (take place trace.log)) a
-    action.0 (update_fits trace in_range call action.0 action.1) (λ base rights protects. plain place call base rights placed (action.1 ∙ ap (λ (o : Action). Some o) protects))
+    (step_ends trace.layout.depth trace.layout.tables (space_from start trace (take place trace.log))
+    (stays_space trace in_range start is (take place trace.log)) a
+    action.0 (update_fits trace in_range call action.0 action.1)
+    (λ base rights protects. plain place call base rights placed (action.1 ∙ ap (λ (o : Action). Some o) protects))
     (λ same. changes (same ∙ sym next))) where
       call : ℕ
       call = get_or trace.log place 0

@@ -61,12 +61,18 @@ hidden_by changes left place size count numbered sound l past more = elim past.s
 shared_number : (own other : Size) (base b a : ℕ) → base % bytes_of own ≡ 0 → b % bytes_of other ≡ 0 → base ≤ a → a < base + bytes_of own → b ≤ a
     → a < b + bytes_of other → ((base ≤ b + level_of other) × (b + level_of other ≤ base + (bytes_of own - 1)))
     ⊎ ((b + level_of other ≡ number_at base M2) ⊎ (b + level_of other ≡ number_at base G1))
-shared_number K4 K4 base b a aligned there low high from upto = inl (omega (arith, aligned, there, low, high, from, upto), omega (arith, aligned, there, low, high, from, upto))
-shared_number M2 K4 base b a aligned there low high from upto = inl (omega (arith, aligned, there, low, high, from, upto), omega (arith, aligned, there, low, high, from, upto))
-shared_number M2 M2 base b a aligned there low high from upto = inl (omega (arith, aligned, there, low, high, from, upto), omega (arith, aligned, there, low, high, from, upto))
-shared_number G1 K4 base b a aligned there low high from upto = inl (omega (arith, aligned, there, low, high, from, upto), omega (arith, aligned, there, low, high, from, upto))
-shared_number G1 M2 base b a aligned there low high from upto = inl (omega (arith, aligned, there, low, high, from, upto), omega (arith, aligned, there, low, high, from, upto))
-shared_number G1 G1 base b a aligned there low high from upto = inl (omega (arith, aligned, there, low, high, from, upto), omega (arith, aligned, there, low, high, from, upto))
+shared_number K4 K4 base b a aligned there low high from upto =
+    inl (omega (arith, aligned, there, low, high, from, upto), omega (arith, aligned, there, low, high, from, upto))
+shared_number M2 K4 base b a aligned there low high from upto =
+    inl (omega (arith, aligned, there, low, high, from, upto), omega (arith, aligned, there, low, high, from, upto))
+shared_number M2 M2 base b a aligned there low high from upto =
+    inl (omega (arith, aligned, there, low, high, from, upto), omega (arith, aligned, there, low, high, from, upto))
+shared_number G1 K4 base b a aligned there low high from upto =
+    inl (omega (arith, aligned, there, low, high, from, upto), omega (arith, aligned, there, low, high, from, upto))
+shared_number G1 M2 base b a aligned there low high from upto =
+    inl (omega (arith, aligned, there, low, high, from, upto), omega (arith, aligned, there, low, high, from, upto))
+shared_number G1 G1 base b a aligned there low high from upto =
+    inl (omega (arith, aligned, there, low, high, from, upto), omega (arith, aligned, there, low, high, from, upto))
 shared_number K4 M2 base b a aligned there low high from upto = inr (inl (omega (arith, aligned, there, low, high, from, upto)))
 shared_number _ _ base b a aligned there low high from upto = inr (inr (omega (arith, aligned, there, low, high, from, upto)))
 

@@ -241,8 +241,8 @@ pub struct Followed {
 /// The touches and the releases lie in the segment, whose space begins with this start. Of a segment whose log isn't clean nothing is said
 /// but that the start comes back. It takes time for the events, the log, the touches, the releases and what of the tail is merged with the
 /// changes; and not for the pages of the start: the updates of the log are done on it, and then undone. Only the first segment with
-/// releases lists all pages, and those that the tail leaves to be found, in indexes that the tail keeps from then on: four rows of 16 bytes
-/// for each page, and 24 bytes more for one that the tail leaves. Allocates a table of four bytes for each event, 160 bytes for each update
+/// releases lists all pages, and those that the tail leaves to be found, in indexes that the tail keeps from then on. These have four rows
+/// of 16 bytes for each page, and 24 bytes more for one that the tail leaves. Allocates a table of four bytes for each event, 160 bytes for each update
 /// that changes the space, 216 bytes for each change of the tail that is merged, and a byte for each touch; with `counts` 48 bytes more for
 /// each update that changes the space; where there are releases at most 344 bytes more for each change of the segment, and for each page
 /// that it changed, and eight rows of 48 bytes for each release, of which the tail keeps half until it lists its pages again.

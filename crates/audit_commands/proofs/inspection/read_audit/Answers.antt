@@ -10,7 +10,8 @@ read_chain-requires-clause-chain c = flag_is c.is_given.ensures c.if-is_given.tr
 pub returns-then-is_given-2-clause-misused : goal.returns-then-is_given-2-clause-misused
 returns-then-is_given-2-clause-misused c =
     let rows = rows_of (found_of c.args.given.now) in
-    inr (subst (IsMisuse rows) (sym c.in_ok-alone.ensures.kind) (flag_is c.is_given.ensures c.if-is_given.false, inl (flag_is c.is_given-2.ensures c.if-is_given-2.true)))
+    inr (subst (IsMisuse rows) (sym c.in_ok-alone.ensures.kind)
+    (flag_is c.is_given.ensures c.if-is_given.false, inl (flag_is c.is_given-2.ensures c.if-is_given-2.true)))
 
 pub returns-then-is_given-3-clause-misused : goal.returns-then-is_given-3-clause-misused
 returns-then-is_given-3-clause-misused c =

@@ -8,7 +8,8 @@ use Rattle.audit_commands.proofs.words.least_overlap.Goals as goal
 pub returns : goal.returns
 returns c =
     let given = c.value_parser-2.ensures.given in
-    let parser_is : c.value_parser-2.result.value_parser ≡ Some (parsers.Signed (pos 0) (pos 4294967295)) = given.1 ∙ ap Some (given.2 ∙ c.value_parser.ensures) in
+    let parser_is : c.value_parser-2.result.value_parser ≡ Some (parsers.Signed (pos 0) (pos 4294967295)) = given.1
+    ∙ ap Some (given.2 ∙ c.value_parser.ensures) in
     let long_is = ap rule_of c.long.ensures ∙ ap (λ (r : Rule). record r { long = Some (codes "least-overlap") }) c.new.ensures.rule in
     let parsed_is = ap rule_of c.value_parser-2.ensures.others ∙ ap₂ (λ (r : Rule) p. record r { parser = p }) long_is parser_is in
     let global = λ (a : Arg). a.global in

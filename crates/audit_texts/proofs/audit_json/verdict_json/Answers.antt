@@ -8,4 +8,5 @@ use Rattle.audit_texts.proofs.audit_json.verdict_json.Goals as goal
 pub returns : goal.returns
 returns c =
     let is = c.in_ok-value.ensures in
-    IfOk-weaker c.json_line.result _ _ (λ text line. line (ap has_float is ∙ verdict_has_no_float c.args.verdict.now c.args.overlapping) ∙ ap json_line is) c.json_line.ensures
+    IfOk-weaker c.json_line.result _ _ (λ text line. line (ap has_float is ∙ verdict_has_no_float c.args.verdict.now c.args.overlapping)
+    ∙ ap json_line is) c.json_line.ensures

@@ -107,13 +107,15 @@ loop-index-preserved c =
           c.index-events-index.is (sym c.event-event.ensures ∙ w.in-Reply.is) in
           record {
             known = subst (λ (l : LastCalls). HasFound c.args.trace.now (c.loop-index.index + 1) (last_of l) c.match-event.replies.items) (sym w.last-is)
-                (subst (λ (v : Vec (Option ℕ) Global). HasFound c.args.trace.now (c.loop-index.index + 1) (last_of c.loop-index.last) v.items) (sym w.replies-is)
+                (subst (λ (v : Vec (Option ℕ) Global). HasFound c.args.trace.now (c.loop-index.index + 1) (last_of c.loop-index.last) v.items)
+                (sym w.replies-is)
                 (subst (λ o. HasFound c.args.trace.now (c.loop-index.index + 1) (last_of c.loop-index.last) (set c.loop-index.replies.items w.in-Reply.call o))
                 (sym w.of.ensures)
                 (known_after_reply c.args.trace.now c.loop-index.index (last_of c.loop-index.last) c.loop-index.replies.items known within _ _ _ is low none)));
             rows = subst (HasRows c.args.trace.now.layout.threads) (sym w.last-is) c.loop-index.invariant.rows;
             none = more_of IsCallFaultAt c.args.trace.now c.loop-index.index c.loop-index.invariant.none
-                (none_at_reply c.args.trace.now c.loop-index.index (last_of c.loop-index.last) c.loop-index.replies.items known within _ _ _ is low called none);
+                (none_at_reply c.args.trace.now c.loop-index.index (last_of c.loop-index.last) c.loop-index.replies.items known within _ _ _
+                is low called none);
           }
       | in_default+in-Some+else-is_open+in_ok-note w ↦
           let own = call_on c.args.trace.now c.events-events.result.now c.loop-index.index _ _ w.in-Some.thread c.events-events.ensures.in_range

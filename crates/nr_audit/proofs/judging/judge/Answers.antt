@@ -27,7 +27,8 @@ pub returns-clause-yes : goal.returns-clause-yes
 returns-clause-yes c = λ sound.
     let trace = c.args.trace.now in
     same_on trace (No c.in-Err-Refused.fault) (Yes (recorded_order trace))
-    (subst (λ (f : Fault). IsFirstAfter None trace f) (sym c.in-Err-Refused.fault-is) (rw c.in-Err-Refused.field-0-is at (c.in-Err-Refused.ensures.first None tt)))
+    (subst (λ (f : Fault). IsFirstAfter None trace f) (sym c.in-Err-Refused.fault-is)
+    (rw c.in-Err-Refused.field-0-is at (c.in-Err-Refused.ensures.first None tt)))
     (sound, refl)
 
 pub returns-clause-no : goal.returns-clause-no

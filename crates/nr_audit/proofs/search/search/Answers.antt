@@ -88,7 +88,8 @@ returns-in-Some-clause-first c = λ run of_tail goes_on.
     let same = c.in_ok-history.ensures.history in
     let t = c.in_ok-history.history in
     let calls = subst (λ t. HasNone IsCallFault t) (sym same) c.in_ok-history.ensures.clean in
-    let clean = subst (λ t. HasCleanLog t) same (clean_after_positions t (after_positions t calls c.in_ok-places.ensures.clean c.in_ok-standing.ensures.clean.0)) in
+    let clean = subst (λ t. HasCleanLog t) same
+    (clean_after_positions t (after_positions t calls c.in_ok-places.ensures.clean c.in_ok-standing.ensures.clean.0)) in
     let right = subst (λ (s : Space). HasNoneFrom s IsAnswerFault t) again
     (subst (λ t. HasNoneFrom touched.start.space IsAnswerFault t) (sym same) c.in_ok-order-2.ensures.right) in
     let before = subst (λ t. HasNoneBefore start 7 t) same
@@ -102,7 +103,8 @@ returns-clause-touches c = λ run of_tail goes_on.
     let same = c.in_ok-history.ensures.history in
     let t = c.in_ok-history.history in
     let calls = subst (λ t. HasNone IsCallFault t) (sym same) c.in_ok-history.ensures.clean in
-    let clean = subst (λ t. HasCleanLog t) same (clean_after_positions t (after_positions t calls c.in_ok-places.ensures.clean c.in_ok-standing.ensures.clean.0)) in
+    let clean = subst (λ t. HasCleanLog t) same
+    (clean_after_positions t (after_positions t calls c.in_ok-places.ensures.clean c.in_ok-standing.ensures.clean.0)) in
     rw (no_stale c.in_ok-touched.touched.stale c.in_ok-touched.touched.reachable (sym c.late_fault.ensures ∙ c.in_default.is)) at
     (c.in_ok-touched.ensures.none run of_tail goes_on clean)
 
@@ -111,7 +113,8 @@ returns-clause-tail c = λ run of_tail goes_on.
     let same = c.in_ok-history.ensures.history in
     let t = c.in_ok-history.history in
     let calls = subst (λ t. HasNone IsCallFault t) (sym same) c.in_ok-history.ensures.clean in
-    let clean = subst (λ t. HasCleanLog t) same (clean_after_positions t (after_positions t calls c.in_ok-places.ensures.clean c.in_ok-standing.ensures.clean.0)) in
+    let clean = subst (λ t. HasCleanLog t) same
+    (clean_after_positions t (after_positions t calls c.in_ok-places.ensures.clean c.in_ok-standing.ensures.clean.0)) in
     c.in_ok-touched.ensures.tail run of_tail goes_on clean
 
 pub returns-clause-met : goal.returns-clause-met
@@ -119,7 +122,8 @@ returns-clause-met c = λ run of_tail goes_on.
     let same = c.in_ok-history.ensures.history in
     let t = c.in_ok-history.history in
     let calls = subst (λ t. HasNone IsCallFault t) (sym same) c.in_ok-history.ensures.clean in
-    let clean = subst (λ t. HasCleanLog t) same (clean_after_positions t (after_positions t calls c.in_ok-places.ensures.clean c.in_ok-standing.ensures.clean.0)) in
+    let clean = subst (λ t. HasCleanLog t) same
+    (clean_after_positions t (after_positions t calls c.in_ok-places.ensures.clean c.in_ok-standing.ensures.clean.0)) in
     rw (no_stale c.in_ok-touched.touched.stale c.in_ok-touched.touched.reachable (sym c.late_fault.ensures ∙ c.in_default.is)) at
     (c.in_ok-touched.ensures.met run of_tail goes_on clean)
 
@@ -131,7 +135,8 @@ returns-in_err-check_dumps-clause-first c = λ run of_tail goes_on.
     let same = c.in_ok-history.ensures.history in
     let t = c.in_ok-history.history in
     let calls = subst (λ t. HasNone IsCallFault t) (sym same) c.in_ok-history.ensures.clean in
-    let clean = subst (λ t. HasCleanLog t) same (clean_after_positions t (after_positions t calls c.in_ok-places.ensures.clean c.in_ok-standing.ensures.clean.0)) in
+    let clean = subst (λ t. HasCleanLog t) same
+    (clean_after_positions t (after_positions t calls c.in_ok-places.ensures.clean c.in_ok-standing.ensures.clean.0)) in
     let nothing = sym c.late_fault.ensures ∙ c.in_default.is in
     let touches = rw (no_stale c.in_ok-touched.touched.stale c.in_ok-touched.touched.reachable nothing) at
     (c.in_ok-touched.ensures.none run of_tail goes_on clean) in
@@ -155,7 +160,8 @@ returns-clause-none c = λ run of_tail goes_on.
     let right = subst (λ t. HasNoneFrom start IsAnswerFault t) (sym same) c.in_ok-order-2.ensures.right in
     let dumps = subst (λ t. HasNoneFrom start IsDumpFault t) (sym same) (c.in_ok-check_dumps.ensures.clean start
     (record { whole = c.in_ok-order-2.ensures.space; found = c.in_ok-order-2.ensures.found })) in
-    let clean = subst (λ t. HasCleanLog t) same (clean_after_positions t (after_positions t calls c.in_ok-places.ensures.clean c.in_ok-standing.ensures.clean.0)) in
+    let clean = subst (λ t. HasCleanLog t) same
+    (clean_after_positions t (after_positions t calls c.in_ok-places.ensures.clean c.in_ok-standing.ensures.clean.0)) in
     let released = rw (no_wrong c.in_ok-touched.touched.stale c.in_ok-touched.touched.reachable (sym c.late_fault.ensures ∙ c.in_default.is)) at
     (c.in_ok-touched.ensures.released run of_tail goes_on clean) in
     none_behind run c.args.start.space c.args.trace.now (returns-clause-touches c run of_tail goes_on) released

@@ -22,7 +22,8 @@ returns-clause-none c = λ run of_tail goes_on clean.
     let all = c.deref.result.now in
     let are = subst (AreTouchesBelow segment (length segment.events)) (sym c.deref.ensures.value) c.in_ok-touches.ensures in
     none_found run c.args.start.space segment all are c.in_ok-followed.followed.stale c.number_in-stale.result
-    (c.in_ok-followed.ensures.finds run of_tail goes_on clean) (c.number_in-stale.ensures ∙ ap (λ (ts : List Touch). option_map (λ (t : Touch). t.made) (option_and_then (slice_get ts) c.in_ok-followed.followed.stale))
+    (c.in_ok-followed.ensures.finds run of_tail goes_on clean) (c.number_in-stale.ensures
+    ∙ ap (λ (ts : List Touch). option_map (λ (t : Touch). t.made) (option_and_then (slice_get ts) c.in_ok-followed.followed.stale))
     (c.deref-3.ensures.value ∙ sym c.deref.ensures.value))
 
 pub returns-clause-some : goal.returns-clause-some
@@ -31,7 +32,8 @@ returns-clause-some c = λ run of_tail goes_on clean.
     let all = c.deref.result.now in
     let are = subst (AreTouchesBelow segment (length segment.events)) (sym c.deref.ensures.value) c.in_ok-touches.ensures in
     some_found run c.args.start.space segment all are c.in_ok-followed.followed.stale c.number_in-stale.result
-    (c.in_ok-followed.ensures.finds run of_tail goes_on clean) (c.number_in-stale.ensures ∙ ap (λ (ts : List Touch). option_map (λ (t : Touch). t.made) (option_and_then (slice_get ts) c.in_ok-followed.followed.stale))
+    (c.in_ok-followed.ensures.finds run of_tail goes_on clean) (c.number_in-stale.ensures
+    ∙ ap (λ (ts : List Touch). option_map (λ (t : Touch). t.made) (option_and_then (slice_get ts) c.in_ok-followed.followed.stale))
     (c.deref-3.ensures.value ∙ sym c.deref.ensures.value))
 
 pub follow-requires-clause-memory : goal.follow-requires-clause-memory

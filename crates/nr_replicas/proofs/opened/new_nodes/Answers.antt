@@ -28,7 +28,8 @@ loop-pass-preserved g c =
       one_over c.loop-pass.nodes.items c.push.new.self.items c.in_ok-node.node _ _ c.in-Some.pass _ c.in_ok-push.ensures.items c.in-Some.ensures.steps.0
           c.loop-pass.invariant.1,
       holds_of_more (IsNodeOf c.args.log.now c.args.config.tables 0) c.loop-pass.nodes.items c.push.new.self.items c.in_ok-node.node
-          c.in_ok-push.ensures.items c.loop-pass.invariant.2 (record { log_is = log; tables_are = c.in_ok-node.ensures.tables; base_is = c.in_ok-node.ensures.base }),
+          c.in_ok-push.ensures.items c.loop-pass.invariant.2
+          (record { log_is = log; tables_are = c.in_ok-node.ensures.tables; base_is = c.in_ok-node.ensures.base }),
       holds_of_more (λ (n : NodeState). n.batch ≡ []) c.loop-pass.nodes.items c.push.new.self.items c.in_ok-node.node c.in_ok-push.ensures.items
           c.loop-pass.invariant.3 c.in_ok-node.ensures.idle,
     )

@@ -18,7 +18,8 @@ loop-replica-preserved g c =
     let Q : List NodeState → Type 0 = λ l. OwnRising 0 (map (λ (n : NodeState). n.known) l) in
     let items : c.insert.new.self.items ≡ insert old place node = c.in_ok-insert.ensures.items in
     let steps : c.loop-replica.replica-iterator.rest.items ≡ c.in-Some.replica ∷ c.next.new.self.rest.items = c.in-Some.ensures.steps.0 in
-    let is_node : P node = record { log_is = c.into_node-node.ensures.log; tables_are = c.into_node-node.ensures.tables; base_is = c.into_node-node.ensures.base } in
+    let is_node : P node =
+    record { log_is = c.into_node-node.ensures.log; tables_are = c.into_node-node.ensures.tables; base_is = c.into_node-node.ensures.base } in
     let number : replica_of node.known.view ≡ c.number.result = ap (λ (l : List ℕ). slice_index l 0) c.number.ensures in
     let own = c.number.ensures ∙ ap (λ (k : ℕ). k ∷ []) (sym number) in
     let value : c.deref.result.now ≡ old = c.deref.ensures.value in

@@ -28,7 +28,8 @@ returns-clause-written g c =
       is_history = search rules;
       begins = settled.begins;
       calls_are = made.handed_in.1
-          ∙ calls_from_first g.K.ReplicasName.base (log_after g.J.LogName.replicas settled.history).entries c.in_ok-log.log.items settled.calls_are c.requires.places.1
+          ∙ calls_from_first g.K.ReplicasName.base (log_after g.J.LogName.replicas settled.history).entries c.in_ok-log.log.items
+          settled.calls_are c.requires.places.1
           ∙ ap (λ (r : ℕ). map (λ (entry : LogEntry). entry.call) (log_after r settled.history).entries) (sym c.requires.names.1);
     } in
     IfOk-weaker c.write.result _ _

@@ -17,7 +17,8 @@ loop-done-init g c =
     let replicas = g.J.LogName.replicas in
     let tables = g.K.ReplicasName.tables in
     let of = since g.K.ReplicasName.log g.K.ReplicasName.base in
-    let history = named_history clock.layout c.args.team.now.base depth replicas tables g.K.ReplicasName.base c.args.pass.now.view.seen c.requires.names c.has_seen_a_history.ensures.history in
+    let history = named_history clock.layout c.args.team.now.base depth replicas tables g.K.ReplicasName.base c.args.pass.now.view.seen
+    c.requires.names c.has_seen_a_history.ensures.history in
     let Here : List Said → Type 0 = λ l. IsUnderWay clock of c.args.thread c.args.script.now 0 c.args.pen.now c.args.pass.now l in (
       subst Here (sym c.requires.said.0) (begins clock of c.args.thread c.args.script.now c.args.pen.now c.args.pass.now c.requires.ready history),
       c.requires.said.1,
@@ -25,7 +26,8 @@ loop-done-init g c =
     )
 
 -- the call that the thread has just made
-next : (g : Over) (c : After-note g) → IsNext c.args.team.now.clock.now (since g.K.ReplicasName.log g.K.ReplicasName.base) c.args.thread c.args.script.now c.loop-done.done
+next : (g : Over) (c : After-note g)
+    → IsNext c.args.team.now.clock.now (since g.K.ReplicasName.log g.K.ReplicasName.base) c.args.thread c.args.script.now c.loop-done.done
     c.index-script-done.result c.loop-done.pen c.call-item.new.pen c.loop-done.pass c.call-item.new.pass c.loop-done.said.items c.call-item.result
 next g c = record {
   under_way = c.loop-done.invariant.0;

@@ -38,7 +38,9 @@ returns-in-Ok-Simulate g c =
       ends = in_either _ _ c.simulate_io-outcome.result c.simulate_io-outcome.ensures.ok c.simulate_io-outcome.ensures.err;
       alone = c.simulate_io-outcome.ensures.alone;
     } in
-    rw c.in-Ok-Simulate.is (rw c.in-Ok-Simulate.field-0-is (subst Reported (ap (λ lines. g.R.Read.remaining lines.reader) c.new-input.ensures.reader ∙ ap g.R.Read.remaining c.new.ensures) reported))
+    rw c.in-Ok-Simulate.is (rw c.in-Ok-Simulate.field-0-is
+    (subst Reported (ap (λ lines. g.R.Read.remaining lines.reader) c.new-input.ensures.reader ∙ ap g.R.Read.remaining c.new.ensures)
+    reported))
 
 pub returns-in-Ok-RunChain : goal.returns-in-Ok-RunChain
 returns-in-Ok-RunChain g c =

@@ -1,4 +1,4 @@
-use Rattle.std.proofs.Common.{Option, sym, subst}
+use Rattle.std.proofs.Common.{Option, sym, subst, ap, ◌∙◌, Some}
 use Rattle.nrvs_audit_c.specs.Calls.{TellsMore, TellsSegment}
 use Rattle.nrvs_audit_c.specs.Chains.{IsFed}
 use Rattle.nrvs_audit_c.specs.declared.judging.Judging.{Judging}
@@ -6,15 +6,15 @@ use Rattle.nrvs_audit_c.proofs.chain.nrvs_audit_chain_feed.Goals as goal
 
 pub returns-clause-told : goal.returns-clause-told
 returns-clause-told c = λ small before orders explain fed.
-    subst (λ (held : Option Judging). TellsSegment before orders explain c.args.bytes.now c.feed.result c.feed.new.taken c.feed.new.finding
-    c.args.order.now c.feed.new.order held) (sym c.of.ensures.held)
-    (c.feed.ensures.told small before orders explain (subst (IsFed before orders explain) (sym c.open.ensures.held) fed))
+    subst (λ (held : Option Judging). TellsSegment before orders explain c.args.bytes.now c.feed-status.result c.feed-status.new.taken c.feed-status.new.finding
+    c.args.order.now c.feed-status.new.order held) (sym c.of.ensures.held)
+    (c.feed-status.ensures.told small before orders explain (subst (IsFed before orders explain) (sym c.open-judging.ensures.held ∙ ap (λ (j : Judging). Some j) (sym c.deref_mut.ensures.value)) fed))
 
 pub returns-clause-more : goal.returns-clause-more
 returns-clause-more c = λ more before orders explain fed.
-    subst (λ (held : Option Judging). TellsMore before orders explain c.args.bytes.now c.feed.new.taken held) (sym c.of.ensures.held)
-    (c.feed.ensures.more more before orders explain (subst (IsFed before orders explain) (sym c.open.ensures.held) fed))
+    subst (λ (held : Option Judging). TellsMore before orders explain c.args.bytes.now c.feed-status.new.taken held) (sym c.of.ensures.held)
+    (c.feed-status.ensures.more more before orders explain (subst (IsFed before orders explain) (sym c.open-judging.ensures.held ∙ ap (λ (j : Judging). Some j) (sym c.deref_mut.ensures.value)) fed))
 
 pub returns-clause-over : goal.returns-clause-over
 returns-clause-over c = λ over before orders explain fed.
-    c.feed.ensures.over over before orders explain (subst (IsFed before orders explain) (sym c.open.ensures.held) fed)
+    c.feed-status.ensures.over over before orders explain (subst (IsFed before orders explain) (sym c.open-judging.ensures.held ∙ ap (λ (j : Judging). Some j) (sym c.deref_mut.ensures.value)) fed)

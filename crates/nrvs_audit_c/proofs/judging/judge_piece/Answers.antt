@@ -10,21 +10,21 @@ returns-then-is_empty c = λ bytes orders explain judged told.
     empty_piece bytes c.args.piece.now orders explain c.args.chain c.args.telling
     (nil_from_length c.args.piece.now (eqb-true (length c.args.piece.now) 0 (sym c.is_empty.ensures ∙ c.if-is_empty.true))) judged told
 
-pub returns-in-More : goal.returns-in-More
-returns-in-More c = λ bytes orders explain judged told. (
+pub returns-in_ok-told-in-More : goal.returns-in_ok-told-in-More
+returns-in_ok-told-in-More c = λ bytes orders explain judged told. (
   more_judged bytes c.args.piece.now orders c.args.chain c.in-More.next judged
       (subst (FeedsChain judged.run c.args.chain c.args.piece.now) c.in-More.is (c.in_ok-next.ensures.feeds judged.run judged.kept)),
   c.in_ok-told-in-More.ensures bytes explain told,
 )
 
-pub returns-in-Right : goal.returns-in-Right
-returns-in-Right c = λ bytes orders explain judged told.
+pub returns-in_ok-told_so_far-in-Right : goal.returns-in_ok-told_so_far-in-Right
+returns-in_ok-told_so_far-in-Right c = λ bytes orders explain judged told.
     right_verdict bytes c.args.piece.now orders explain c.args.chain c.in-Right.next c.in-Right.count c.in-Right.order _ _ judged
     (subst (FeedsChain judged.run c.args.chain c.args.piece.now) c.in-Right.is (c.in_ok-next.ensures.feeds judged.run judged.kept))
     (c.in_ok-told_so_far-in-Right.ensures bytes explain told)
 
-pub returns-in-Wrong : goal.returns-in-Wrong
-returns-in-Wrong c = λ bytes orders explain judged told.
+pub returns-in_ok-explanation-in-Wrong : goal.returns-in_ok-explanation-in-Wrong
+returns-in_ok-explanation-in-Wrong c = λ bytes orders explain judged told.
     let feeds = subst (FeedsChain judged.run c.args.chain c.args.piece.now) c.in-Wrong.is (c.in_ok-next.ensures.feeds judged.run judged.kept) in (
       refl,
       wrong_judged bytes c.args.piece.now orders c.args.chain c.in-Wrong.fault judged feeds (λ none. absurd (

@@ -36,7 +36,9 @@ returns-in-Runs-clause-next c = λ memory offered next. record {
   planned = λ e. absurd (omega (arith, e));
   runs = λ e. (
     c.in-Runs.made,
-    run_as memory c.args.range.now (range_in c.write_run.new.run) (c.requires.target ∙ ap target_in (sym c.write_run.ensures.kept.call) ∙ sym (ended_target c.write_run.new.run.plan c.write_run.ensures.ended))
+    run_as memory c.args.range.now (range_in c.write_run.new.run)
+        (c.requires.target ∙ ap target_in (sym c.write_run.ensures.kept.call)
+        ∙ sym (ended_target c.write_run.new.run.plan c.write_run.ensures.ended))
         (c.requires.request ∙ ap request_in (sym c.write_run.ensures.kept.call)) (c.requires.base ∙ sym c.write_run.ensures.kept.base)
         (c.requires.bytes ∙ sym c.write_run.ensures.kept.bytes) c.in-Runs.made (sym c.write_run.ensures.level)
         (subst (λ (s : RangeStep). IsRangeNext memory c.args.range.now offered s) c.in-Runs.is next),
@@ -57,7 +59,8 @@ returns-in-Harvests-clause-next c = λ memory offered next.
       runs = λ e. absurd (omega (arith, e));
       harvests = λ e. (
         c.in-Harvests.made,
-        harvest_as memory c.args.range.now (range_in c.write_run-in-Harvests.new.run) (c.requires.target ∙ ap target_in (sym wrote.kept.call) ∙ sym (ended_target c.write_run-in-Harvests.new.run.plan wrote.ended))
+        harvest_as memory c.args.range.now (range_in c.write_run-in-Harvests.new.run)
+            (c.requires.target ∙ ap target_in (sym wrote.kept.call) ∙ sym (ended_target c.write_run-in-Harvests.new.run.plan wrote.ended))
             (c.requires.request ∙ ap request_in (sym wrote.kept.call)) (c.requires.base ∙ sym wrote.kept.base)
             (c.requires.bytes ∙ sym wrote.kept.bytes) c.in-Harvests.made (sym wrote.level)
             (subst (λ (s : RangeStep). IsRangeNext memory c.args.range.now offered s) c.in-Harvests.is next),

@@ -81,7 +81,8 @@ returns-in-Wrong-clause-ok g c =
     let known = g.R.Read.remaining in
     let contents = g.W.Write.contents in
     let piece = take c.in_ok-count.count c.read_block.new.block in
-    let taken = subst (λ (t : Taken). TakesBlock c.loop-room.invariant.last c.args.style c.loop-room.chain c.loop-room.number piece (contents c.loop-room.writer)
+    let taken =
+    subst (λ (t : Taken). TakesBlock c.loop-room.invariant.last c.args.style c.loop-room.chain c.loop-room.number piece (contents c.loop-room.writer)
     (contents c.take_block.new.writer) c.loop-room.totals t) c.in-Wrong.is
     (c.in_ok-next.ensures.ok c.loop-room.invariant.last c.loop-room.invariant.kept c.loop-room.invariant.short) in
     let here = next_block c.loop-room.invariant.last c.args.style _ (known c.loop-room.reader) (known c.read_block.new.reader) _ (contents c.loop-room.writer)
@@ -100,7 +101,8 @@ loop-room-preserved g c =
     let contents = g.W.Write.contents in
     let piece = take c.in_ok-count.count c.read_block.new.block in
     let full : length c.read_block.new.block ≡ 4096 = omega (arith, c.read_block.auto.block, c.loop-room.auto.block, c.requires) in
-    let taken = subst (λ (t : Taken). TakesBlock c.loop-room.invariant.last c.args.style c.loop-room.chain c.loop-room.number piece (contents c.loop-room.writer)
+    let taken =
+    subst (λ (t : Taken). TakesBlock c.loop-room.invariant.last c.args.style c.loop-room.chain c.loop-room.number piece (contents c.loop-room.writer)
     (contents c.take_block.new.writer) c.loop-room.totals t) c.in-More.is
     (c.in_ok-next.ensures.ok c.loop-room.invariant.last c.loop-room.invariant.kept c.loop-room.invariant.short) in
     reads_on c.args.style _ (known c.loop-room.reader) (known c.read_block.new.reader) _ (contents c.loop-room.writer) (contents c.take_block.new.writer)
@@ -112,7 +114,8 @@ loop-room-preserved g c =
 pub returns-clause-first : goal.returns-clause-first
 returns-clause-first g c =
     let chain = c.loop-room.chain in
-    λ written. all_written c.args.style _ _ _ _ c.loop-room.invariant.last chain.bytes c.loop-room.number CannotRead c.loop-room.invariant.here c.loop-room.invariant.short
+    λ written. all_written c.args.style _ _ _ _ c.loop-room.invariant.last chain.bytes c.loop-room.number CannotRead
+    c.loop-room.invariant.here c.loop-room.invariant.short
 
 pub returns-clause-few : goal.returns-clause-few
 returns-clause-few g c = few_kept c.loop-room.invariant (Keeps-refl (g.R.Read.remaining c.loop-room.reader))

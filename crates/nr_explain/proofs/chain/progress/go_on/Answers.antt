@@ -13,7 +13,8 @@ use Rattle.nr_explain.proofs.chain.progress.go_on.Goals as goal
 pub returns-clause-space : goal.returns-clause-space
 returns-clause-space c =
     let is = c.in_ok-space.ensures in
-    same_end c.args.segment.now (first_space (space_seen (all_states c.args.last)) c.args.segment.now) c.in_ok-first.first c.in_ok-space.space c.args.after.space
+    same_end c.args.segment.now (first_space (space_seen (all_states c.args.last)) c.args.segment.now) c.in_ok-first.first
+    c.in_ok-space.space c.args.after.space
     c.in_ok-first.ensures.space (is.space c.requires.clean) is.depth is.limit c.requires.after
 
 pub returns-clause-tail : goal.returns-clause-tail

@@ -62,7 +62,9 @@ returns-in-Ok c = λ came seen.
       c.in-Ok.ensures.sound (run_in came) here,
       record {
         met = c.counted-met.result;
-        counted = subst (λ (o : Option Met). IfSome o (HasMet (run_in came) (begins_in (run_in came) c.args.segment.now) c.args.segment.now)) c.counted-met.ensures
+        counted =
+            subst (λ (o : Option Met). IfSome o (HasMet (run_in came) (begins_in (run_in came) c.args.segment.now) c.args.segment.now))
+            c.counted-met.ensures
             (c.in-Ok.ensures.met (run_in came) here);
         seen = seen_next c.args.last c.args.segment.now c.args.before c.requires.twice c.requires.follows came c.in_ok-came-in-Ok.came c.in-Ok.past
             c.counted-met.result c.args.size seen (c.in-Ok.ensures.kept (run_in came) here) is.layout is.space is.tail is.began is.sums;

@@ -14,10 +14,12 @@ update_at-update-requires-clause-call c =
 pub unreachable-requires : goal.unreachable-requires
 unreachable-requires c =
     let (start, address, made, with_page, reached) = c.requires in
-    has_reply start c.args.segment.now address made with_page c.args.first reached c.if-first-eq0.false c.update_at-update.result c.update_at-update.ensures.place
+    has_reply start c.args.segment.now address made with_page c.args.first reached c.if-first-eq0.false c.update_at-update.result
+    c.update_at-update.ensures.place
     c.update_at-update.ensures.placed c.in-None.ensures
 
 pub returns : goal.returns
 returns c = λ start address made with_page reached.
-    update_missed start c.args.segment.now address made with_page c.args.first reached c.if-first-eq0.false c.update_at-update.result c.update_at-update.ensures.place
+    update_missed start c.args.segment.now address made with_page c.args.first reached c.if-first-eq0.false c.update_at-update.result
+    c.update_at-update.ensures.place
     c.update_at-update.ensures.placed c.in-Some.reply c.update_at-update.ensures.call c.in-Some.ensures

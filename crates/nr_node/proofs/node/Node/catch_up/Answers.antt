@@ -75,7 +75,8 @@ apply_all-requires-clause-fit g c =
     let Fit : List LogEntry → Type 0 = λ l. All (IsLogEntry self.replica.depth) l in
     subst Fit (sym (slice_from self.ahead c.as_slice.result.now c.take.new.entries.items c.as_slice.ensures.value))
     (took_fit _ _ _ self.pass.view c.take.new.pass.view (drop self.ahead c.take.new.entries.items) self.replica.depth
-    (took_all _ _ self.pass.view c.take.new.pass.view c.take.new.entries.items self.ahead _ c.in_ok-take.ensures.taken is.0.owner is.2 is.0.written) is.1.depth_is)
+    (took_all _ _ self.pass.view c.take.new.pass.view c.take.new.entries.items self.ahead _ c.in_ok-take.ensures.taken is.0.owner is.2 is.0.written)
+    is.1.depth_is)
 
 pub apply_all-requires-clause-room : goal.apply_all-requires-clause-room
 apply_all-requires-clause-room g c =
@@ -140,7 +141,8 @@ returns-clause-caught_up g c =
     let ByCount : ℕ → Type 0 = λ n. HasCaughtUp g.J.LogName.depth g.J.LogName.replicas (node_state self.pass self.replica self.batch.items self.first)
     n (node_state c.take.new.pass next c.keep_unplaced.new.batch.items None) in
     let ByOld : NodeState → Type 0 = λ n. HasCaughtUp g.J.LogName.depth g.J.LogName.replicas n
-    (length (take (length c.as_slice.result.now - self.ahead) (drop self.ahead c.as_slice.result.now))) (node_state c.take.new.pass next c.keep_unplaced.new.batch.items None) in
+    (length (take (length c.as_slice.result.now - self.ahead) (drop self.ahead c.as_slice.result.now)))
+    (node_state c.take.new.pass next c.keep_unplaced.new.batch.items None) in
     let count = ap (λ (l : List LogEntry). length l) new in
     subst ByOld c.self.view_is (subst ByCount (sym count) (subst ByLeft (sym c.keep_unplaced.ensures)
     (caught_up _ _ self.pass c.take.new.pass self.replica next self.batch.items self.first whole entries took all is.0 applied)))

@@ -52,14 +52,16 @@ returns-in_err-append_and_take-clause-stayed g c =
 pub slice_bounds-new-count : goal.slice_bounds-new-count
 slice_bounds-new-count g c =
     let self = c.self.inside in
-    let did = put_and_took _ _ self.pass c.append_and_take.new.pass self.replica self.batch.items self.first _ c.ask_for.new.asked _ _ _ self.ahead c.self.view_is
+    let did = put_and_took _ _ self.pass c.append_and_take.new.pass self.replica self.batch.items self.first _ c.ask_for.new.asked _ _ _
+    self.ahead c.self.view_is
     c.requires.some c.len.ensures.value c.ask_for.ensures.entries c.in_ok-append_and_take.ensures.done c.self.invariant in
     omega (arith, did.few, ap (λ (l : List LogEntry). length l) c.as_slice.ensures.value)
 
 pub slice_bounds-new-start : goal.slice_bounds-new-start
 slice_bounds-new-start g c =
     let self = c.self.inside in
-    let did = put_and_took _ _ self.pass c.append_and_take.new.pass self.replica self.batch.items self.first _ c.ask_for.new.asked _ _ _ self.ahead c.self.view_is
+    let did = put_and_took _ _ self.pass c.append_and_take.new.pass self.replica self.batch.items self.first _ c.ask_for.new.asked _ _ _
+    self.ahead c.self.view_is
     c.requires.some c.len.ensures.value c.ask_for.ensures.entries c.in_ok-append_and_take.ensures.done c.self.invariant in
     omega (arith, did.few, ap (λ (l : List LogEntry). length l) c.as_slice.ensures.value)
 
@@ -67,7 +69,8 @@ pub apply_all-requires-clause-fit : goal.apply_all-requires-clause-fit
 apply_all-requires-clause-fit g c =
     let self = c.self.inside in
     let is = c.self.invariant in
-    let did = put_and_took _ _ self.pass c.append_and_take.new.pass self.replica self.batch.items self.first _ c.ask_for.new.asked _ _ _ self.ahead c.self.view_is
+    let did = put_and_took _ _ self.pass c.append_and_take.new.pass self.replica self.batch.items self.first _ c.ask_for.new.asked _ _ _
+    self.ahead c.self.view_is
     c.requires.some c.len.ensures.value c.ask_for.ensures.entries c.in_ok-append_and_take.ensures.done c.self.invariant in
     let Fit : List LogEntry → Type 0 = λ l. All (IsLogEntry self.replica.depth) l in
     subst Fit (sym (slice_from self.ahead c.as_slice.result.now _ c.as_slice.ensures.value)) (put_fit _ _ _ _ _ _ _ _ _ did self.replica.depth is.1.depth_is).0
@@ -85,7 +88,8 @@ pub apply_batch-requires-clause-fit : goal.apply_batch-requires-clause-fit
 apply_batch-requires-clause-fit g c =
     let self = c.self.inside in
     let is = c.self.invariant in
-    let did = put_and_took _ _ self.pass c.append_and_take.new.pass self.replica self.batch.items self.first _ c.ask_for.new.asked _ _ _ self.ahead c.self.view_is
+    let did = put_and_took _ _ self.pass c.append_and_take.new.pass self.replica self.batch.items self.first _ c.ask_for.new.asked _ _ _
+    self.ahead c.self.view_is
     c.requires.some c.len.ensures.value c.ask_for.ensures.entries c.in_ok-append_and_take.ensures.done c.self.invariant in
     (put_fit _ _ _ _ _ _ _ _ _ did c.apply_all.new.self.depth (ap (λ (r : ReplicaState). r.depth) c.apply_all.ensures ∙ is.1.depth_is)).1
 
@@ -112,18 +116,22 @@ apply_batch-requires-clause-room g c =
 pub invariant_of-self-2 : goal.invariant_of-self-2
 invariant_of-self-2 g c =
     let self = c.self.inside in
-    let did = put_and_took _ _ self.pass c.append_and_take.new.pass self.replica self.batch.items self.first _ c.ask_for.new.asked _ _ _ self.ahead c.self.view_is
+    let did = put_and_took _ _ self.pass c.append_and_take.new.pass self.replica self.batch.items self.first _ c.ask_for.new.asked _ _ _
+    self.ahead c.self.view_is
     c.requires.some c.len.ensures.value c.ask_for.ensures.entries c.in_ok-append_and_take.ensures.done c.self.invariant in
-    let both = both_applied self.replica c.apply_all.new.self c.apply_batch.new.self _ _ _ c.apply_all.ensures (slice_from self.ahead c.as_slice.result.now _ c.as_slice.ensures.value)
+    let both = both_applied self.replica c.apply_all.new.self c.apply_batch.new.self _ _ _ c.apply_all.ensures
+    (slice_from self.ahead c.as_slice.result.now _ c.as_slice.ensures.value)
     c.apply_batch.ensures.applied in
     (put_left _ _ _ _ _ _ _ _ _ did _ both _ _ self.first c.self.view_is c.requires.unplaced c.clear-2.ensures).1
 
 pub returns-clause-caught_up : goal.returns-clause-caught_up
 returns-clause-caught_up g c =
     let self = c.self.inside in
-    let did = put_and_took _ _ self.pass c.append_and_take.new.pass self.replica self.batch.items self.first _ c.ask_for.new.asked _ _ _ self.ahead c.self.view_is
+    let did = put_and_took _ _ self.pass c.append_and_take.new.pass self.replica self.batch.items self.first _ c.ask_for.new.asked _ _ _
+    self.ahead c.self.view_is
     c.requires.some c.len.ensures.value c.ask_for.ensures.entries c.in_ok-append_and_take.ensures.done c.self.invariant in
-    let both = both_applied self.replica c.apply_all.new.self c.apply_batch.new.self _ _ _ c.apply_all.ensures (slice_from self.ahead c.as_slice.result.now _ c.as_slice.ensures.value)
+    let both = both_applied self.replica c.apply_all.new.self c.apply_batch.new.self _ _ _ c.apply_all.ensures
+    (slice_from self.ahead c.as_slice.result.now _ c.as_slice.ensures.value)
     c.apply_batch.ensures.applied in
     (put_left _ _ _ _ _ _ _ _ _ did _ both _ _ self.first c.self.view_is c.requires.unplaced c.clear-2.ensures).0
 
@@ -136,9 +144,11 @@ returns-clause-own g c =
     let mid = c.apply_all.new.self in
     let next = c.apply_batch.new.self in
     let later = log_after g.J.LogName.replicas after.view.seen in
-    let did = put_and_took _ _ self.pass c.append_and_take.new.pass self.replica self.batch.items self.first _ c.ask_for.new.asked _ _ _ self.ahead c.self.view_is
+    let did = put_and_took _ _ self.pass c.append_and_take.new.pass self.replica self.batch.items self.first _ c.ask_for.new.asked _ _ _
+    self.ahead c.self.view_is
     c.requires.some c.len.ensures.value c.ask_for.ensures.entries c.in_ok-append_and_take.ensures.done c.self.invariant in
-    let both = both_applied self.replica mid next _ _ _ c.apply_all.ensures (slice_from self.ahead c.as_slice.result.now _ c.as_slice.ensures.value) c.apply_batch.ensures.applied in
+    let both = both_applied self.replica mid next _ _ _ c.apply_all.ensures
+    (slice_from self.ahead c.as_slice.result.now _ c.as_slice.ensures.value) c.apply_batch.ensures.applied in
     let Own : Depth → ℕ → List LogEntry → Type 0 = λ d t l.
     IfSome c.apply_batch.new.own (λ update. IsAnsweredIn d t l c.args.wanted update.0 update.1) in
     let ByDepth : Depth → Type 0 = λ d. Own d mid.tables next.entries in
@@ -161,9 +171,11 @@ returns-clause-placed g c =
     let next = c.apply_batch.new.self in
     let later = log_after g.J.LogName.replicas after.view.seen in
     let batch = self.batch.items in
-    let did = put_and_took _ _ self.pass c.append_and_take.new.pass self.replica self.batch.items self.first _ c.ask_for.new.asked _ _ _ self.ahead c.self.view_is
+    let did = put_and_took _ _ self.pass c.append_and_take.new.pass self.replica self.batch.items self.first _ c.ask_for.new.asked _ _ _
+    self.ahead c.self.view_is
     c.requires.some c.len.ensures.value c.ask_for.ensures.entries c.in_ok-append_and_take.ensures.done c.self.invariant in
-    let both = both_applied self.replica mid next _ _ _ c.apply_all.ensures (slice_from self.ahead c.as_slice.result.now _ c.as_slice.ensures.value) c.apply_batch.ensures.applied in
+    let both = both_applied self.replica mid next _ _ _ c.apply_all.ensures
+    (slice_from self.ahead c.as_slice.result.now _ c.as_slice.ensures.value) c.apply_batch.ensures.applied in
     let first : length mid.entries ≡ length later.entries - length batch = omega (
       arith,
       ap (λ (l : List LogEntry). length l) (put_entries _ _ _ _ _ _ _ _ _ did next both),

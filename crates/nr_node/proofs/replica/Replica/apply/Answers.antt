@@ -22,10 +22,13 @@ invariant_of-self g c =
       as_many past told,
       c.self.invariant.base_is,
     ) in
-    let P : List Told → Type 0 = λ l. IsReplica c.apply-answer.new.self c.self.inside.past.count past l (Rattle.std.specs.Vec.vec_capacity c.push_reserved.new.self) in
+    let P : List Told → Type 0 =
+    λ l. IsReplica c.apply-answer.new.self c.self.inside.past.count past l
+    (Rattle.std.specs.Vec.vec_capacity c.push_reserved.new.self) in
     let Steps : LogEntry → Type 0 = λ e. IsTableStep c.self.inside.space e.op c.apply-answer.result c.apply-answer.new.self in
     subst P (sym (c.push_reserved.ensures.items ∙ ap (λ (u : Told). told ++ u ∷ []) c.new.ensures))
-    (one_more c.self.inside.space c.apply-answer.new.self c.self.inside.past.count past told t _ _ c.self.invariant (subst Steps c.entry-op.ensures.is c.apply-answer.ensures) few
+    (one_more c.self.inside.space c.apply-answer.new.self c.self.inside.past.count past told t _ _ c.self.invariant
+    (subst Steps c.entry-op.ensures.is c.apply-answer.ensures) few
     c.push_reserved.ensures.capacity)
 
 pub returns-clause-answer : goal.returns-clause-answer

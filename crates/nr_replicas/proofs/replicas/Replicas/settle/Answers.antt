@@ -99,7 +99,9 @@ returns-clause-settled g c =
     ∙ sym c.in_ok-others.ensures.count ∙ count in
     let Turn : List Known → Type 0 = OwnInTurn 0 in
     let own : OwnInTurn 0 passes = subst Turn (sym parts.split) (own_in_turn replicas node.known others rising apart below all) in
-    settled depth replicas g.J.LogName.places tables g.K.ReplicasName.base c.args.passes.now passes others node c.in_ok-others.dumps.items c.in_ok-calls.calls.items c.add_rest.new.calls.items a b last
-    c.in_ok-calls.ensures.is_node parts.first_base parts.split heard begins c.hear_all-2.ensures.heard c.hear_all-2.ensures.begins c.in_ok-add_rest.ensures.heard
+    settled depth replicas g.J.LogName.places tables g.K.ReplicasName.base c.args.passes.now passes others node c.in_ok-others.dumps.items
+    c.in_ok-calls.calls.items c.add_rest.new.calls.items a b last
+    c.in_ok-calls.ensures.is_node parts.first_base parts.split heard begins c.hear_all-2.ensures.heard c.hear_all-2.ensures.begins
+    c.in_ok-add_rest.ensures.heard
     c.in_ok-others.ensures.dumps own count c.in_ok-calls.ensures.calls c.in_ok-add_rest.ensures.rest
     own_advances c.has_seen_a_history.ensures.ends

@@ -27,7 +27,8 @@ returns c =
     let (s, at) = element sights next there in
     let read : get_or sights next (record { number = 0; phys = 0; kind = 0; place = 0 }) ≡ s = get_or_default sights next _ s there ∙ at in
     let tested : c.lt.result ≡ before s (at_place from c.args.last) =
-    rw read at (before_tested (get_or sights next (record { number = 0; phys = 0; kind = 0; place = 0 })) (at_place from c.args.last) c.lt.result c.lt.ensures) in (
+    rw read at (before_tested (get_or sights next (record { number = 0; phys = 0; kind = 0; place = 0 })) (at_place from c.args.last)
+    c.lt.result c.lt.ensures) in (
       λ t. has_found sights c.requires from c.args.last next found s there at (sym tested ∙ t),
       λ some. true_from_ne_false c.lt.result (λ other. none_found sights c.requires from c.args.last next found s there at (sym tested ∙ other) some),
     )

@@ -28,4 +28,5 @@ returns-clause-sound c = λ before start segment followed are places t. (_, c.le
 pub returns-clause-whole : goal.returns-clause-whole
 returns-clause-whole c = λ before start segment stay followed are places at until leads.
     c.leads_there.ensures.whole before start segment followed are places
-    (subst (λ (q : Stay). LeadsSo start segment (left_in c.args.earlier.now) c.args.release.now q.page) (sym (get_or_from_slice_get c.args.stays.now c.args.row stay _ at)) leads)
+    (subst (λ (q : Stay). LeadsSo start segment (left_in c.args.earlier.now) c.args.release.now q.page)
+    (sym (get_or_from_slice_get c.args.stays.now c.args.row stay _ at)) leads)

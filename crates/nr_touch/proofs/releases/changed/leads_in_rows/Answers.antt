@@ -17,7 +17,8 @@ loop-end-init c =
       within = found.within;
       most = found.before;
       none = λ run start segment followed are places.
-          none_begun start segment (left_in c.args.earlier.now) c.args.release.now c.args.changed.now.stays.items c.args.changed.now.lives c.args.block c.begun-end.result found;
+          none_begun start segment (left_in c.args.earlier.now) c.args.release.now c.args.changed.now.stays.items c.args.changed.now.lives
+          c.args.block c.begun-end.result found;
       over = λ run start segment followed are places known.
           over_from start segment (left_in c.args.earlier.now) c.args.changed.now c.args.release.now c.args.block c.begun-end.result c.args.before known;
     }
@@ -142,7 +143,8 @@ loop-end-preserved c =
           (ap (λ (xs : List Stay). slice_get xs c.index-row.result.now) c.deref-else-until-made.ensures.value ∙ ap (slice_get stays) row ∙ at)) [
             | inl ended ↦ ended_over start segment (left_in c.args.earlier.now) c.args.release.now stay ended
             | inr settled ↦ elim (cases_lt stay.until c.args.release.now.made) [
-              | inr there ↦ settled_over start segment c.args.history.now.changes.items (left_in c.args.earlier.now) followed.own c.args.release.now stay settled
+              | inr there ↦ settled_over start segment c.args.history.now.changes.items (left_in c.args.earlier.now) followed.own
+                  c.args.release.now stay settled
                   (λ leads. false≢true (sym c.if-leads_in_row.false
                   ∙ c.leads_in_row.ensures.whole run start segment stay followed are places
                   (ap (λ (xs : List Stay). slice_get xs c.index-row.result.now) c.deref.ensures.value ∙ ap (slice_get stays) row ∙ at) there leads))

@@ -54,7 +54,8 @@ loop-frame-preserved c =
             let from = c.loop-frame.invariant.none before start segment followed are places leads in
             absurd (false≢true (sym c.if-is_met.false ∙ (c.is_met.ensures before start segment followed are places).1
             (leads_alike before start segment c.args.history.now.changes.items (left_in c.args.earlier.now) followed.own followed.goes_on followed.earlier
-            c.args.space.now.space c.args.space.now.depth c.pages_are_a_space.ensures are c.args.release.now c.args.page c.requires.page leads c.loop-frame.frame
+            c.args.space.now.space c.args.space.now.depth c.pages_are_a_space.ensures are c.args.release.now c.args.page c.requires.page
+            leads c.loop-frame.frame
             from here (next.own leads.frame from low) (next.earlier leads.frame from low))))
         | inr past ↦ past
       ];

@@ -37,7 +37,8 @@ returns-clause-listed c = λ run start segment followed are places listed.
 pub returns-clause-whole : goal.returns-clause-whole
 returns-clause-whole c = λ run start segment page followed are places holds indexed leads.
     let release = c.args.release.now in
-    let (block, of, for) = block_met release page leads.frame c.requires.memory (roomy_page c.pages_are_a_space.ensures page holds).frame leads.within leads.has in
+    let (block, of, for) = block_met release page leads.frame c.requires.memory (roomy_page c.pages_are_a_space.ensures page holds).frame
+    leads.within leads.has in
     elim for [
       | inl e ↦ absurd (false≢true (sym c.if-by_own.false ∙ c.in_ok-by_own.ensures.whole run start segment page followed are places holds indexed
           (subst (IsBlockOf page) (e ∙ sym c.around-own.ensures) of) leads))

@@ -15,7 +15,8 @@ returns c = λ before start segment followed are places.
     finds_reached before start segment (left_in c.args.earlier.now) release seen c.least_address.result
     (λ can.
     let r = reached start segment own (left_in c.args.earlier.now) followed.own c.requires.own.numbered c.requires.earlier.numbered
-    c.args.space.now.space c.args.space.now.depth c.pages_are_a_space.ensures are c.args.places places (left_in c.args.earlier.now) seen c.requires.seen release.made
+    c.args.space.now.space c.args.space.now.depth c.pages_are_a_space.ensures are c.args.places places (left_in c.args.earlier.now) seen
+    c.requires.seen release.made
     c.event_fits.ensures before followed.goes_on followed.earlier release c.requires.memory.0 refl can (λ each has. has) in
     (r.s, r.has, r.leads))
     (c.least_address.ensures before start segment followed are places)

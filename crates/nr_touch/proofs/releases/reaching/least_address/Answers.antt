@@ -23,7 +23,8 @@ loop-each-preserved c = λ before start segment followed are places.
     let old = c.loop-each.invariant before start segment followed are places in
     elim c.match-frame_there.branch [
       | in-Some w ↦ subst (λ (o : Option ℕ). FindsBelow before start segment (left_in c.args.earlier.now) release seen (index + 1) o) (sym w.least-is)
-          (lower_reached before start segment (left_in c.args.earlier.now) release seen index _ c.loop-each-test.true c.loop-each.least w.in-Some.frame w.frame_address-address.result
+          (lower_reached before start segment (left_in c.args.earlier.now) release seen index _ c.loop-each-test.true c.loop-each.least
+          w.in-Some.frame w.frame_address-address.result
           w.lower.result w.frame_address-address.ensures (w.in-Some.ensures.finds before start segment followed are places) old w.lower.ensures)
       | in-None w ↦ subst (λ (o : Option ℕ). FindsBelow before start segment (left_in c.args.earlier.now) release seen (index + 1) o) (sym w.least-is)
           (none_more before start segment (left_in c.args.earlier.now) release seen index _ c.loop-each-test.true c.loop-each.least
@@ -32,5 +33,6 @@ loop-each-preserved c = λ before start segment followed are places.
 
 pub returns : goal.returns
 returns c = λ before start segment followed are places.
-    found_of_all before start segment (left_in c.args.earlier.now) c.args.release.now c.args.seen.now c.loop-each.each-index c.loop-each.least (omega (arith, c.loop-each-test.false))
+    found_of_all before start segment (left_in c.args.earlier.now) c.args.release.now c.args.seen.now c.loop-each.each-index
+    c.loop-each.least (omega (arith, c.loop-each-test.false))
     (c.loop-each.invariant before start segment followed are places)

@@ -29,5 +29,6 @@ returns c = λ start changes clean are numbered openings.
     let is : touched trace c.args.call ≡ Some c.in-Some.address = sym c.touched.ensures ∙ c.in-Some.is in
     let within = touch_within trace c.args.call c.in-Some.address is in
     let many = c.requires.replies.one_each in
-    answered_touch start trace clean changes are c.args.replies.now c.requires.replies c.requires.few c.args.call c.in-Some.address c.is_open_within.result within is
+    answered_touch start trace clean changes are c.args.replies.now c.requires.replies c.requires.few c.args.call c.in-Some.address
+    c.is_open_within.result within is
     (omega (arith, many, c.if-answered-replies.false)) (c.is_open_within.ensures changes numbered openings)

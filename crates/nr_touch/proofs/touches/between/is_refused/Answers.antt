@@ -7,7 +7,8 @@ use Rattle.nr_touch.proofs.touches.between.is_refused.Goals as goal
 pub returns-then-code-fault_code : goal.returns-then-code-fault_code
 returns-then-code-fault_code c = λ is.
     let none = c.if-code-fault_code.true ∙ c.fault_code.ensures in
-    Decides-like _ (unmapped_forth c.args.history.now c.requires c.args.touch.now c.args.size c.args.first c.args.last c.args.code is _ c.number_at.ensures none)
+    Decides-like _ (unmapped_forth c.args.history.now c.requires c.args.touch.now c.args.size c.args.first c.args.last c.args.code is _
+    c.number_at.ensures none)
     (unmapped_back c.args.history.now c.requires c.args.touch.now c.args.size c.args.first c.args.last c.args.code is _ c.number_at.ensures none)
     (rw c.deref.ensures.value at c.has.ensures)
 

@@ -14,7 +14,8 @@ returns-then-is_as_now c = λ before start segment followed are places.
 pub returns-then-is_in_time : goal.returns-then-is_in_time
 returns-then-is_in_time c = λ before start segment followed are places.
     excused_behind start segment (left_in c.args.earlier.now) c.args.touch.now before followed.goes_on followed.earlier c.open_or_kept.result
-    (excused_late _ start segment c.args.touch.now c.open_or_kept.result (inl ((c.is_in_time.ensures start segment followed.own are places).0 c.if-is_in_time.true))
+    (excused_late _ start segment c.args.touch.now c.open_or_kept.result
+    (inl ((c.is_in_time.ensures start segment followed.own are places).0 c.if-is_in_time.true))
     (λ now. false≢true (sym c.if-is_as_now.false ∙ (c.is_as_now.ensures start segment followed.own are places).1 now))
     (c.open_or_kept.ensures start segment followed.own are places))
 

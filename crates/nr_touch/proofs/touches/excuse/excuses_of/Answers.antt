@@ -12,7 +12,8 @@ returns-in-None-clause-finds c = λ before start segment followed are places.
 
 pub loop-index-preserved : goal.loop-index-preserved
 loop-index-preserved c = λ before start segment followed are places.
-    subst (λ (list : List Excuse). AreExcusedBelow before start segment c.args.touches.now list (c.loop-index.index + 1)) (sym c.in_ok-push-in-Some.ensures.items)
+    subst (λ (list : List Excuse). AreExcusedBelow before start segment c.args.touches.now list (c.loop-index.index + 1))
+    (sym c.in_ok-push-in-Some.ensures.items)
     (one_more before start segment c.args.touches.now c.loop-index.excuses.items c.loop-index.index
     (c.loop-index.invariant before start segment followed are places) _ c.in-Some.excuse
     (rw c.in-Some.is at (c.excuse_of.ensures before start segment followed are places)))

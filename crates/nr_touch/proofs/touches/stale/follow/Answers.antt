@@ -39,10 +39,12 @@ led depth own start changes listed now same are leads =
 
 -- the columns of what was left
 pub excuses_of-requires-clause-earlier : goal.excuses_of-requires-clause-earlier
-excuses_of-requires-clause-earlier c = subst IsLadder (sym c.deref-4.ensures.value) (ladder c.args.tail.changes.items c.args.tail.levels.items c.requires.sound.1)
+excuses_of-requires-clause-earlier c =
+    subst IsLadder (sym c.deref-4.ensures.value) (ladder c.args.tail.changes.items c.args.tail.levels.items c.requires.sound.1)
 
 pub first_reachable-requires-clause-earlier : goal.first_reachable-requires-clause-earlier
-first_reachable-requires-clause-earlier c = subst IsLadder (sym c.deref-5.ensures.value) (ladder c.args.tail.changes.items c.args.tail.levels.items c.requires.sound.1)
+first_reachable-requires-clause-earlier c =
+    subst IsLadder (sym c.deref-5.ensures.value) (ladder c.args.tail.changes.items c.args.tail.levels.items c.requires.sound.1)
 
 pub first_reachable-requires-clause-levels : goal.first_reachable-requires-clause-levels
 first_reachable-requires-clause-levels c = rw (c.deref-5.ensures.value, c.deref-6.ensures.value) c.requires.sound.1
@@ -154,7 +156,8 @@ returns-clause-tail c = λ run of_tail goes_on clean.
     (stayed c.args.start.depth start c.in_ok-own.space.space own c.in_ok-history.history.changes.items c.in_ok-history.ensures.same
     c.in_ok-own.ensures.leads)) in
     let indexed = subst (HasIndexes found) (c.in_ok-own.ensures.space clean)
-    (if_both (λ i. HasPages i.pages c.in_ok-own.space.space) (λ i. AreListed (IsLeft found.changes.items) i.lingering i.gone) c.in_ok-index.index pages listed) in
+    (if_both (λ i. HasPages i.pages c.in_ok-own.space.space) (λ i. AreListed (IsLeft found.changes.items) i.lingering i.gone)
+    c.in_ok-index.index pages listed) in
     tail_with start segment (clean_is_orderly segment clean) own are rises few run tail found indexed of_tail goes_on looks
 
 pub returns-clause-start : goal.returns-clause-start

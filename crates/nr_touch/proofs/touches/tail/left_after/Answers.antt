@@ -21,14 +21,16 @@ placed-requires-clause-each c = rw c.deref-5.ensures.value c.in_ok-kept.ensures.
 
 pub returns-clause-looks : goal.returns-clause-looks
 returns-clause-looks c =
-    let rows = c.deref-4.ensures.value ∙ c.in_ok-rows.ensures ∙ ap (λ (xs : List Left). drop c.merged-keep.result.1 xs ++ c.args.own.now) c.deref-3.ensures.value in
+    let rows = c.deref-4.ensures.value ∙ c.in_ok-rows.ensures
+    ∙ ap (λ (xs : List Left). drop c.merged-keep.result.1 xs ++ c.args.own.now) c.deref-3.ensures.value in
     rw (c.in_ok-extend_from_slice.ensures.items, c.truncate-2.ensures.items, c.deref-6.ensures.value)
     (merged_looks c.args.changes.items c.args.own.now c.merged-keep.result.1 c.in_ok-kept.kept.items (rw rows at c.in_ok-kept.ensures.looks)
     (λ some. rw rows at (c.in_ok-kept.ensures.ends (ne_eqb c.merged-keep.result.1 0 (λ none. omega (arith, some, none))))))
 
 pub returns-clause-sound : goal.returns-clause-sound
 returns-clause-sound c =
-    let rows = c.deref-4.ensures.value ∙ c.in_ok-rows.ensures ∙ ap (λ (xs : List Left). drop c.merged-keep.result.1 xs ++ c.args.own.now) c.deref-3.ensures.value in
+    let rows = c.deref-4.ensures.value ∙ c.in_ok-rows.ensures
+    ∙ ap (λ (xs : List Left). drop c.merged-keep.result.1 xs ++ c.args.own.now) c.deref-3.ensures.value in
     let many : length c.in_ok-rows.rows.items ≡ length (drop c.merged-keep.result.1 c.args.changes.items ++ c.args.own.now) =
     ap length (sym c.deref-4.ensures.value ∙ rows) in
     let few = c.if-len-start.false in

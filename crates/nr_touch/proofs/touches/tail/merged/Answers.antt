@@ -29,7 +29,9 @@ pub overflow_sub-start : goal.overflow_sub-start
 overflow_sub-start c =
     let levels = c.args.levels.now in
     let so = c.loop-passed.invariant in
-    let low = (less c.args.changes.now levels c.loop-passed.start c.loop-passed.passed c.index-levels-keep.result c.loop-passed-test.true so.within so.levels).0 in
+    let low =
+    (less c.args.changes.now levels c.loop-passed.start c.loop-passed.passed c.index-levels-keep.result c.loop-passed-test.true
+    so.within so.levels).0 in
     let many = (get_or levels (length levels - c.loop-passed.passed - 1) c.index-levels-keep.result).changes.ok.0 in
     omega (arith, low, many, c.len-rows.ensures)
 

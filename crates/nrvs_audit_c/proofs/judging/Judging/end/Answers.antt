@@ -4,7 +4,6 @@ use Rattle.nr_chain.specs.Bytes.{GoesOnSo}
 use Rattle.nr_chain.proofs.FoundChains.{right_chain}
 use Rattle.nrvs_audit_c.specs.Chains.{IsFed}
 use Rattle.nrvs_audit_c.specs.declared.judging.Judging.{Judging}
-use Rattle.nrvs_audit_c.proofs.Pieces.{found_at_end}
 use Rattle.nrvs_audit_c.proofs.judging.Judging.end.Goals as goal
 
 pub returns-in-Over-clause-over : goal.returns-in-Over-clause-over
@@ -14,12 +13,12 @@ returns-in-Over-clause-over c = λ is bytes orders explain fed.
 pub returns-in-Ok-clause-told : goal.returns-in-Ok-clause-told
 returns-in-Ok-clause-told c = λ small bytes orders explain fed.
     let there = subst (λ (j : Judging). IsFed bytes orders explain (Some j)) (sym c.replace.ensures.value ∙ c.in-Open.is) fed in
-    let so = found_at_end bytes orders c.in-Open.chain c.end.result there.0 (c.end.ensures there.0.run there.0.kept) in
+    let ended = c.in-Ok.ensures bytes orders explain there.0 there.1 in
     record {
-      found = c.end.result;
-      goes_on = so;
-      right = λ none. right_chain bytes orders (subst (λ (found : Option Fault). GoesOnSo None bytes orders found) none so);
+      found = c.in-Ok.ended.found;
+      goes_on = ended.0;
+      right = λ none. right_chain bytes orders (subst (λ (found : Option Fault). GoesOnSo None bytes orders found) none ended.0);
       status_is = c.end_status.ensures.is;
       finding_is = c.of_end.ensures;
-      over = c.in-Ok.ensures bytes explain there.1;
+      over = ended.1;
     }

@@ -14,4 +14,5 @@ returns-in-Some c =
 
 pub returns-in-None : goal.returns-in-None
 returns-in-None c =
-    none_foreseen c.args.self.now c.requires c.args.page c.args.event c.args.most (rw (c.deref.ensures.value, c.deref-2.ensures.value, c.from.ensures) at c.in-None.ensures)
+    none_foreseen c.args.self.now c.requires c.args.page c.args.event c.args.most
+    (rw (c.deref.ensures.value, c.deref-2.ensures.value, c.from.ensures) at c.in-None.ensures)

@@ -10,7 +10,8 @@ returns-clause-next c =
 
 pub returns-clause-numbered : goal.returns-clause-numbered
 returns-clause-numbered c =
-    next_numbered c.args.self.now.changes.items c.requires.numbered c.args.address (Covers c.args.address) c.args.place c.earlier-2.result (returns-clause-next c)
+    next_numbered c.args.self.now.changes.items c.requires.numbered c.args.address (Covers c.args.address) c.args.place c.earlier-2.result
+    (returns-clause-next c)
 
 pub returns-clause-covers : goal.returns-clause-covers
 returns-clause-covers c =

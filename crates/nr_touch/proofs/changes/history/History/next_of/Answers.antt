@@ -10,5 +10,6 @@ returns-in_err-row c =
 
 pub returns : goal.returns
 returns c =
-    first_next c.args.self.now c.requires c.args.page c.args.place c.in_ok-row.row (rw (c.deref.ensures.value, c.deref-2.ensures.value, c.from.ensures) at c.in_ok-row.ensures)
+    first_next c.args.self.now c.requires c.args.page c.args.place c.in_ok-row.row
+    (rw (c.deref.ensures.value, c.deref-2.ensures.value, c.from.ensures) at c.in_ok-row.ensures)
     c.index.result.now (sym c.index.ensures)

@@ -22,4 +22,5 @@ returns-in-Some c = λ at lowered.
 
 pub returns-in-None : goal.returns-in-None
 returns-in-None c = λ at lowered.
-    none_flushed c.args.self.now c.requires.columns at c.args.column.now lowered c.args.page c.args.event (rw (c.deref.ensures.value, c.from.ensures) at c.in-None.ensures)
+    none_flushed c.args.self.now c.requires.columns at c.args.column.now lowered c.args.page c.args.event
+    (rw (c.deref.ensures.value, c.from.ensures) at c.in-None.ensures)
