@@ -338,7 +338,7 @@ def main(words):
         for place in sorted({place for place, _ in found}):
             names = sorted(name for at, name in found if at == place)
             print(f"{place}: {' '.join(name if (place, name) in base else f'({name})' for name in names)}")
-    base = {(place, name) for place, name in base if not place.endswith(".Examples")}
+    base = {(place, name) for place, name in base if not place.endswith("Examples")}
     told = read_aloud((ROOT / "docs/DEFINITIONS.md").read_text())
     first = {(place, name) for places, name in told for place in places}
     commented = {(place, name) for place, (_, _, those) in beside().items() for name, (_, comment) in those.items() if comment}

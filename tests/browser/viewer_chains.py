@@ -138,7 +138,7 @@ def check_all(viewer, work):
             faults.add(whole["evidence"]["fault"])
         check(f"{name}: no other is drawn", is_refused(viewer, data, said, last + 1))
         browsed |= {name: pages[-1]} if name in BROWSED else {}
-    check("each fault of chains comes up", faults >= {*model.FAULTS, *model.traces.FAULTS}, faults)
+    check("each fault of chains comes up", faults >= {*model.traces.FAULTS, *model.traces.OF_CHAINS}, faults)
     if work:
         check_in_browser(work, browsed)
 

@@ -12,6 +12,8 @@ sys.dont_write_bytecode = True
 import model_chain_evidence as chain_evidence
 import model_evidence as evidence
 
+COUNTS = "beside calls kept lagging open overlapping repeated".split()   # of a right chain
+
 
 def line_of(members):
     return json.dumps(members, sort_keys=True, separators=(",", ":"), ensure_ascii=False) + "\n"
@@ -61,7 +63,7 @@ def of_chain(text, data):
         what, number = line.split(" ")
         if what == "segments":
             counts = chain_evidence.explained(data)[0]["counts"]
-            told.append(line_of({**{what: counts[what] for what in ("beside", "calls", "kept", "lagging", "open", "overlapping", "repeated")}, "segments": int(number), "verdict": line}))
+            told.append(line_of({**{what: counts[what] for what in COUNTS}, "segments": int(number), "verdict": line}))
             continue
         verdict = lines.pop(0)
         told.append(line_of({**verdict_members(verdict, lines.pop(0) if verdict == "yes" else ""), "segment": int(number)}))

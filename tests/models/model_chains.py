@@ -13,9 +13,6 @@ import sys
 import model_auditor as traces
 from model_auditor import RELEASE, TOUCH, Answer, Call, Dump, Fault, Reply, Space, Trace, expect
 
-FAULTS = "StartMissing StartShared StartReserved StartStray StartBeyond StartDiffers Stale Reachable".split()  # 18 and on
-traces.FAULTS.extend(fault for fault in FAULTS if fault not in traces.FAULTS)
-
 Segment = collections.namedtuple("Segment", "trace start touches releases ends")  # ends: the index of the first byte behind it
 Entry = collections.namedtuple("Entry", "call called answered")  # of the joined log, with its events there; answered may be NEVER
 Life = collections.namedtuple("Life", "page born ended is_taken")  # a page, the places of the entries that made and that ended it, and how

@@ -4,6 +4,7 @@ import struct
 
 FAULTS = """Format ThreadOpen NoSuchCall AnsweredTwice NotAnUpdate PlacedTwice NotPlaced PastLog Early WrongAnswer
             PrefixPastLog PrefixShort MissingFrame SharedFrame ReservedBit StrayFrame Differs""".split()
+OF_CHAINS = "StartMissing StartShared StartReserved StartStray StartBeyond StartDiffers Stale Reachable".split()     # 18 and on
 
 
 class Fault(Exception):
@@ -11,7 +12,7 @@ class Fault(Exception):
 
     def __str__(self):
         name, *what = self.args
-        return " ".join(["no", str(FAULTS.index(name) + 1), name] + [str(each) for each in what])
+        return " ".join(["no", str((FAULTS + OF_CHAINS).index(name) + 1), name] + [str(each) for each in what])
 
 
 MAP, UNMAP, PROTECT, RESOLVE, ACCESS, TOUCH, RELEASE = range(7)    # the last two are in chains alone

@@ -54,7 +54,6 @@ growths() {
     python3 -B tests/models/model_evidence.py --json <examples/$case.trace >"$work/explained"
     refuse_each "explain --json $case" $? "$work/explained" "$work/nothing" examples/$case.trace "$program" explain --json
   done
-  printf 'mapped 0x1123 4K wux\n' >"$work/mapped"
   "$program" simulate --trace --tables 4 <"$script" >"$work/simulated_of_4"
   refuse_each "resolve" 0 "$work/mapped" "$work/nothing" $trace "$program" resolve --address 0x400123
   refuse_each "resolve, the steps" 0 "$work/walked" "$work/nothing" $trace "$program" resolve --steps --address 0x400123

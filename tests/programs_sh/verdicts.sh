@@ -61,7 +61,6 @@ greatest() {
 pieces() {
   local file=$work/generated/run_4_64.trace
   answers "in pieces" 0 "${file%.trace}.output" <(python3 tests/ends/in_pieces.py 1 7 4095 4097 3 30001 <"$file") "$program" audit
-  printf 'mapped 0x1123 4K wux\n' >"$work/mapped"
   answers "resolve in pieces" 0 "$work/mapped" <(python3 tests/ends/in_pieces.py 19 1 8191 <"$trace") \
     "$program" resolve --address 0x400123
 }
