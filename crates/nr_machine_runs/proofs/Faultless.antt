@@ -8,7 +8,7 @@ use Rattle.vs_types.specs.Config.{Layout}
 use Rattle.vs_types.specs.Space.{no_pages}
 use Rattle.vs_types.specs.declared.log_entry.LogEntry.{LogEntry}
 use Rattle.vs_walk.specs.Dump.{Image}
-use Rattle.nr_trace.specs.Laws.{IsFaultless}
+use Rattle.nr_trace.specs.Laws.{HasCleanLog, IsFaultless}
 use Rattle.nr_trace.specs.Orders.{FitsOrder, IsLegalOrder, recorded_order}
 use Rattle.nr_trace.specs.Recording.{IsThere, Recording}
 use Rattle.nr_trace.specs.declared.fault.Fault.TheVariants.{ThreadOpen, NoSuchCall, AnsweredTwice, NotAnUpdate, PlacedTwice, NotPlaced, PastLog, Early}
@@ -167,25 +167,28 @@ new_noted layout means = record {
 }
 
 -- of a recording of such a state
-faultless : (state : State) (version : Version) (dumps : List Image) → IsReached state → AreDumps state dumps
-    → IsFaultless (recording state version dumps)
-faultless state version dumps reached are (ThreadOpen index) h = (clean_log state version dumps reached).no_thread_open index h
-faultless state version dumps reached are (NoSuchCall index) h = (clean_log state version dumps reached).no_such_call index h
-faultless state version dumps reached are (AnsweredTwice index) h = (clean_log state version dumps reached).none_twice index h
-faultless state version dumps reached are (NotAnUpdate place) h = (clean_log state version dumps reached).updates_alone place h
-faultless state version dumps reached are (PlacedTwice place) h = (clean_log state version dumps reached).placed_once place h
-faultless state version dumps reached are (NotPlaced index) h = (clean_log state version dumps reached).all_placed index h
-faultless state version dumps reached are (PastLog index) h = (clean_log state version dumps reached).none_past_log index h
-faultless state version dumps reached are (Early call) h = none_early state version dumps call reached h
-faultless state version dumps reached are (WrongAnswer call) h = none_wrong state version dumps call reached h
-faultless state version dumps reached are (PrefixPastLog r) h = none_past_log state version dumps r reached are h
-faultless state version dumps reached are (PrefixShort r) h = none_short state version dumps r reached are h
-faultless state version dumps reached are (MissingFrame r number) h = none_in_walk state dumps r _ are h
-faultless state version dumps reached are (SharedFrame r number) h = none_in_walk state dumps r _ are h
-faultless state version dumps reached are (ReservedBit r number index) h = none_in_walk state dumps r _ are h
-faultless state version dumps reached are (StrayFrame r number) h = none_stray state version dumps r number are h
-faultless state version dumps reached are (Differs r address) h = none_differs state version dumps r address reached are h
-faultless state version dumps reached are _ h = h
+module _ (state : State) (version : Version) (dumps : List Image) (reached : IsReached state) (are : AreDumps state dumps) where
+  clean : HasCleanLog (recording state version dumps)
+  clean = clean_log state version dumps reached
+
+  faultless : IsFaultless (recording state version dumps)
+  faultless (ThreadOpen index) h = clean.no_thread_open index h
+  faultless (NoSuchCall index) h = clean.no_such_call index h
+  faultless (AnsweredTwice index) h = clean.none_twice index h
+  faultless (NotAnUpdate place) h = clean.updates_alone place h
+  faultless (PlacedTwice place) h = clean.placed_once place h
+  faultless (NotPlaced index) h = clean.all_placed index h
+  faultless (PastLog index) h = clean.none_past_log index h
+  faultless (Early call) h = none_early state version dumps call reached h
+  faultless (WrongAnswer call) h = none_wrong state version dumps call reached h
+  faultless (PrefixPastLog r) h = none_past_log state version dumps r reached are h
+  faultless (PrefixShort r) h = none_short state version dumps r reached are h
+  faultless (MissingFrame r number) h = none_in_walk state dumps r _ are h
+  faultless (SharedFrame r number) h = none_in_walk state dumps r _ are h
+  faultless (ReservedBit r number index) h = none_in_walk state dumps r _ are h
+  faultless (StrayFrame r number) h = none_stray state version dumps r number are h
+  faultless (Differs r address) h = none_differs state version dumps r address reached are h
+  faultless _ h = h
 
 pub none_of_runs : (trace : Recording) → IsRecordingOfRun trace → IsFaultless trace
 none_of_runs trace is =
