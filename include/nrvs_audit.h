@@ -15,12 +15,13 @@
  *
  * Any bytes may be judged. What the caller has to keep, since no call can test it:
  *   - pointers are not null, aligned for their types, and lead to as many elements as stated. What they lead to doesn't overlap. Nobody
- *     else writes it, or reads `order` and `finding`, before the call returns. But `order` may be null if `room` is 0, and `bytes` if
- *     `length` is 0: this is tested and not proved, since the proof doesn't cover null pointers;
+ *     else writes it, or reads what the call may write, before the call returns. But `order` and `text` may be null if `room` is 0, and
+ *     `bytes` if `length` is 0: this is tested and not proved, since the proof doesn't cover null pointers;
  *   - the heap that is linked with the archive does what is said of `rattle_alloc`, `rattle_realloc` and `rattle_dealloc` below;
  *   - no call is made from a signal handler, nor in the forked child of a process that has threads;
  *   - a `struct nrvs_audit_chain` is all zero before its first call, and then as the last call left it. One copy of it is used, by one
- *     thread: the one that began the chain.
+ *     thread: the one that began the chain. Other threads may make calls meanwhile, for chains of their own or with `nrvs_audit`, if the
+ *     heap bears that, as `malloc` does.
  * A call allocates from that heap, keeps no pointer of the caller's, and takes no lock. It frees all before it returns, but for what a
  * chain keeps between calls, which `nrvs_audit_chain_free` frees (tested: tests/library).
  */
@@ -39,8 +40,8 @@ extern "C" {
 enum {
 	NRVS_RIGHT = 0,        /* the bytes are right */
 	NRVS_WRONG = 1,        /* they have a fault: `finding` has the first */
-	NRVS_MORE = 2,         /* the chain has no fault yet, and its next segment isn't whole: feed more */
-	NRVS_NO_MEMORY = 3,    /* a growth of memory was refused; nothing was written */
+	NRVS_MORE = 2,         /* no fault was found in the chain yet, and its next segment isn't whole: feed more */
+	NRVS_NO_MEMORY = 3,    /* a growth of memory was refused; nothing was written but a chain's struct */
 	NRVS_NO_CHAIN = 4,     /* the chain was never begun, or is freed */
 	NRVS_CHAIN_OVER = 5,   /* the chain has its verdict, or memory ran out for it: it takes nothing more */
 	NRVS_CHAIN_IN_USE = 6, /* the chain was begun before: free it first */
@@ -119,11 +120,12 @@ uint32_t nrvs_audit_chain_new(struct nrvs_audit_chain *chain, bool explain);
 /* Feeds `length` bytes, which go on where the last ones taken ended. It takes all of them, or fewer if a segment ends: feed the rest again.
  *   - NRVS_RIGHT: the first `*taken` bytes end a segment that is right. With it the chain so far is right. `finding->calls` is how many
  *     calls the segment's order has. If that is at most `room`, they are written to `order`, each as the index of its event in the segment.
- *   - NRVS_WRONG: the segment has the fault in `finding`, its first, whatever comes behind. The chain is over.
+ *   - NRVS_WRONG: the segment has the fault in `finding`, its first, whatever comes behind. Its numbers of events, places and frames count
+ *     in this segment, which is the one behind those that were right. The chain is over. `*taken` is `length`.
  *   - NRVS_MORE: all bytes were taken, and no segment ended. `*taken` is `length`.
  *   - NRVS_NO_MEMORY: the chain is over, and has no verdict.
  *   - NRVS_CHAIN_OVER and NRVS_NO_CHAIN: nothing was taken.
- * Nothing is written to `finding` and `order` but with NRVS_RIGHT and NRVS_WRONG.
+ * Nothing is written to `finding` and `order` but with NRVS_RIGHT and NRVS_WRONG, nor to `*taken` but with these and NRVS_MORE.
  */
 uint32_t nrvs_audit_chain_feed(struct nrvs_audit_chain *chain, const uint8_t *bytes, size_t length, uint32_t *order, size_t room,
 			       struct nrvs_finding *finding, size_t *taken);
@@ -141,8 +143,8 @@ uint32_t nrvs_audit_chain_end(struct nrvs_audit_chain *chain, struct nrvs_findin
  */
 uint32_t nrvs_audit_chain_explain(struct nrvs_audit_chain *chain, bool as_json, char *text, size_t room, size_t *length);
 
-/* Frees what a chain keeps, at any time after it was begun, and once. The struct can then begin another chain. Of a struct that is all
- * zero it does nothing.
+/* Frees what a chain keeps, at any time after it was begun: also after NRVS_NO_MEMORY, and after its verdict. The struct can then begin
+ * another chain. If it has none, since it is all zero or was freed, nothing happens.
  */
 void nrvs_audit_chain_free(struct nrvs_audit_chain *chain);
 
