@@ -111,7 +111,7 @@ impl Chain {
         }
     }
 
-    /// Ends the chain: `None` if it is right; else the fault at its end, which cuts a segment or has none.
+    /// Ends the chain, of which no more comes: `None` if it is right; else the fault of bytes that end within a segment, or of none.
     ///
     /// # Errors
     ///
