@@ -120,8 +120,8 @@ uint32_t nrvs_audit_chain_new(struct nrvs_audit_chain *chain, bool explain);
 /* Feeds `length` bytes, which go on where the last ones taken ended. It takes all of them, or fewer if a segment ends: feed the rest again.
  *   - NRVS_RIGHT: the first `*taken` bytes end a segment that is right. With it the chain so far is right. `finding->calls` is how many
  *     calls the segment's order has. If that is at most `room`, they are written to `order`, each as the index of its event in the segment.
- *   - NRVS_WRONG: the segment has the fault in `finding`, its first, whatever comes behind. Its numbers of events, places and frames count
- *     in this segment, which is the one behind those that were right. The chain is over. `*taken` is `length`.
+ *   - NRVS_WRONG: the segment has the fault in `finding`, its first, whatever comes behind. Events, calls and places are counted in this
+ *     segment, which is the one behind those that were right. The chain is over. `*taken` is `length`.
  *   - NRVS_MORE: all bytes were taken, and no segment ended. `*taken` is `length`.
  *   - NRVS_NO_MEMORY: the chain is over, and has no verdict.
  *   - NRVS_CHAIN_OVER and NRVS_NO_CHAIN: nothing was taken.
