@@ -1,6 +1,9 @@
 //! The calls for C that judge a chain as it comes. Each takes what the chain has come to out of its handle, and puts it back.
 
-ghost use Rattle.std.specs.Prelude.{◌≡◌, ◌≢◌, ◌≤◌, [], ℕ, List, Bool, Option, None, true};
+ghost use Rattle.std.specs.Prelude.{◌≡◌, ◌≢◌, ◌≤◌, ◌⊎◌, [], ℕ, List, Bool, Option, None, Some, true};
+ghost use Rattle.nr_chain.specs.Fed.{ChainFed};
+ghost use Rattle.nr_explain.specs.declared.chain.explanation.ChainExplanation.{ChainExplanation as ExplanationRow};
+ghost use Rattle.nrvs_audit_c.specs.declared.telling.Telling.{Telling as TellingRow};
 ghost use Rattle.nrvs_audit_c.specs.Calls.{IsSound, TellsEnd, TellsMore, TellsSegment, TellsText};
 ghost use Rattle.nrvs_audit_c.specs.Chains.{IsFed, IsOver};
 ghost use Rattle.nrvs_audit_c.specs.declared.handle.TheConstants.{MADE};
@@ -58,6 +61,11 @@ pub extern "C" fn nrvs_audit_chain_feed(
         → TellsMore before orders explain bytes.now taken.new chain.new.held.value }
     ensures over { result ≡ 5 → (before : List ℕ) (orders : List (List ℕ)) (explain : Bool)
         → IsFed before orders explain chain.old.held.value → ⊥ }
+    ensures closed { chain.old.magic ≡ MADE → (explanation : Option ExplanationRow)
+        → chain.old.held.value ≡ Some (Judging.Over explanation) → result ≡ 5 }
+    ensures kept { result ≡ 5 → chain.new.held.value ≡ chain.old.held.value }
+    ensures memory { result ≡ 3 → chain.new.held.value ≡ Some (Judging.Over None) }
+    ensures taken { 3 ≤ result → taken.new ≡ taken.old }
     ensures no_chain { chain.old.magic ≢ MADE → (result ≡ 4) × (chain.new ≡ chain.old) }
     ensures statuses { chain.old.magic ≡ MADE → (result ≤ 5) × (result ≢ 4) }
     ensures finding { 2 ≤ result → finding.new ≡ finding.old }
@@ -90,6 +98,10 @@ pub extern "C" fn nrvs_audit_chain_end(
         → TellsEnd bytes orders explain result finding.new chain.new.held.value }
     ensures over { result ≡ 5 → (bytes : List ℕ) (orders : List (List ℕ)) (explain : Bool)
         → IsFed bytes orders explain chain.old.held.value → ⊥ }
+    ensures closed { chain.old.magic ≡ MADE → (explanation : Option ExplanationRow)
+        → chain.old.held.value ≡ Some (Judging.Over explanation) → result ≡ 5 }
+    ensures kept { result ≡ 5 → chain.new.held.value ≡ chain.old.held.value }
+    ensures memory { result ≡ 3 → chain.new.held.value ≡ Some (Judging.Over None) }
     ensures no_chain { chain.old.magic ≢ MADE → (result ≡ 4) × (chain.new ≡ chain.old) }
     ensures statuses { chain.old.magic ≡ MADE → (result ≤ 5) × (result ≢ 4) × (result ≢ 2) }
     ensures finding { 2 ≤ result → finding.new ≡ finding.old }
@@ -125,6 +137,12 @@ pub extern "C" fn nrvs_audit_chain_explain(
     ensures unexplained { result ≡ 7 → (bytes : List ℕ)
         → IsOver bytes true chain.old.held.value → ⊥ }
     ensures no_chain { chain.old.magic ≢ MADE → (result ≡ 4) × (chain.new ≡ chain.old) }
+    ensures early { chain.old.magic ≡ MADE → (fed : ChainFed) (telling : Option TellingRow)
+        → chain.old.held.value ≡ Some (Judging.Open fed telling) → result ≡ 7 }
+    ensures none { chain.old.magic ≡ MADE
+        → chain.old.held.value ≡ Some (Judging.Over None) → result ≡ 7 }
+    ensures statuses { chain.old.magic ≡ MADE
+        → (result ≡ 7) ⊎ ((result ≤ 3) × (result ≢ 2)) }
     ensures value { chain.old.magic ≡ MADE → chain.new.held.value ≡ chain.old.held.value }
     ensures length { 2 ≤ result → length.new ≡ length.old }
     ensures text { 2 ≤ result → text.new ≡ text.old }
@@ -144,7 +162,9 @@ pub extern "C" fn nrvs_audit_chain_explain(
 #[unsafe(no_mangle)]
 pub extern "C" fn nrvs_audit_chain_free(alloc: Global, chain: &mut Handle)
     requires { IsSound chain.old }
-    ensures { chain.new.magic ≢ MADE }
+    ensures freed { chain.old.magic ≡ MADE
+        → (chain.new.magic ≡ 0) × (chain.new.held.value ≡ None) }
+    ensures none { chain.old.magic ≢ MADE → chain.new ≡ chain.old }
 {
     if chain.magic == MADE {
         let _judging = chain.open(alloc);

@@ -1,6 +1,6 @@
 //! The handle of a chain that C keeps between calls.
 
-ghost use Rattle.std.specs.Prelude.{◌≡◌, Option, Some, is_some, true};
+ghost use Rattle.std.specs.Prelude.{◌≡◌, Option, None, Some, is_some, true};
 ghost use Rattle.nrvs_audit_c.specs.declared.handle.TheConstants.{MADE};
 
 use crate::held::Held;
@@ -38,6 +38,7 @@ impl Handle {
         requires { is_some self.old.held.value ≡ true }
         ensures held { Some result.value ≡ self.old.held.value }
         ensures magic { self.new.magic ≡ 0 }
+        ensures left { self.new.held.value ≡ None }
     {
         self.magic = 0;
         let held = self.held.take(alloc);

@@ -117,7 +117,10 @@ fn write_told(
 }
 
 impl Judging {
-    ghost use Rattle.std.specs.Prelude.{◌≡◌, ◌≢◌, ◌≤◌, [], ℕ, List, Bool, Some, true};
+    ghost use Rattle.std.specs.Prelude.{◌≡◌, ◌≢◌, ◌≤◌, ◌⊎◌, [], ℕ, List, Bool, Option, None, Some, true};
+    ghost use Rattle.nr_chain.specs.Fed.{ChainFed};
+    ghost use Rattle.nr_explain.specs.declared.chain.explanation.ChainExplanation.{ChainExplanation as ExplanationRow};
+    ghost use Rattle.nrvs_audit_c.specs.declared.telling.Telling.{Telling as TellingRow};
     ghost use Rattle.nrvs_audit_c.specs.Calls.{TellsEnd, TellsMore, TellsSegment, TellsText};
     ghost use Rattle.nrvs_audit_c.specs.Chains.{IsFed, IsOver};
 
@@ -146,6 +149,10 @@ impl Judging {
             → TellsMore bytes orders explain piece.now taken.new (Some self.new) }
         ensures over { result ≡ 5 → (bytes : List ℕ) (orders : List (List ℕ)) (explain : Bool)
             → IsFed bytes orders explain (Some self.old) → ⊥ }
+        ensures closed { (explanation : Option ExplanationRow)
+            → self.old ≡ Judging.Over explanation → result ≡ 5 }
+        ensures memory { result ≡ 3 → self.new ≡ Judging.Over None }
+        ensures taken { 3 ≤ result → taken.new ≡ taken.old }
         ensures kept { result ≡ 5 → self.new ≡ self.old }
         ensures statuses { (result ≤ 5) × (result ≢ 4) }
         ensures finding { 2 ≤ result → finding.new ≡ finding.old }
@@ -181,6 +188,9 @@ impl Judging {
             → TellsEnd bytes orders explain result finding.new (Some self.new) }
         ensures over { result ≡ 5 → (bytes : List ℕ) (orders : List (List ℕ)) (explain : Bool)
             → IsFed bytes orders explain (Some self.old) → ⊥ }
+        ensures closed { (explanation : Option ExplanationRow)
+            → self.old ≡ Judging.Over explanation → result ≡ 5 }
+        ensures memory { result ≡ 3 → self.new ≡ Judging.Over None }
         ensures kept { result ≡ 5 → self.new ≡ self.old }
         ensures statuses { (result ≤ 5) × (result ≢ 4) × (result ≢ 2) }
         ensures finding { 2 ≤ result → finding.new ≡ finding.old }
@@ -214,6 +224,10 @@ impl Judging {
             → TellsText as_json bytes result length.new text.old text.new }
         ensures unexplained { result ≡ 7 → (bytes : List ℕ)
             → IsOver bytes true (Some self.now) → ⊥ }
+        ensures early { (chain : ChainFed) (telling : Option TellingRow)
+            → self.now ≡ Judging.Open chain telling → result ≡ 7 }
+        ensures none { self.now ≡ Judging.Over None → result ≡ 7 }
+        ensures statuses { (result ≡ 7) ⊎ ((result ≤ 3) × (result ≢ 2)) }
         ensures length { 2 ≤ result → length.new ≡ length.old }
         ensures text { 2 ≤ result → text.new ≡ text.old }
     {
