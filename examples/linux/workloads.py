@@ -113,6 +113,7 @@ def own_program(text: str, is_planted: bool) -> tuple[str, Workload]:
         raise Missing(f"{file} is no program")
     if name in ("busybox", "workload", "script.py"):
         raise Missing(f"the guest has a {name} already")
-    asks = "echo PLANT\nread line </dev/ttyS1\n" if is_planted else ""
+    # the line is open before the recorder is asked: what comes down a closed one is lost
+    asks = "exec 4</dev/ttyS1\necho PLANT\nread line <&4\nexec 4<&-\n" if is_planted else ""
     return name, Workload(f"{file}, 3 processors", shlex.join(["exec", f"/bin/{name}", *arguments]), 3, 50, file=lambda: file, chain=1000,
                           begin=asks)
