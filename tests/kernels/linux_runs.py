@@ -71,7 +71,8 @@ def check_programs() -> None:
         check("a program of one's own", name == "mine" and guest.files == (f"{folder}/mine",) and workload.chain > 0
               and guest.command.splitlines()[-1] == "/bin/workload exec /bin/mine 'a b' c", guest)
         lines = own_program(f"{folder}/mine", True)[1].guest(1, PLANTS["gather"]).command.splitlines()
-        check("it begins when the bug is planted", lines[1:] == ["echo PLANT", "read line </dev/ttyS1", "/bin/workload exec /bin/mine"], lines)
+        check("it begins when the bug is planted", lines[1:] == ["exec 4</dev/ttyS1", "echo PLANT", "read line <&4", "exec 4<&-",
+                                                                 "/bin/workload exec /bin/mine"], lines)
         for what, text, said in (("a name that the guest has", f"{folder}/workload", "the guest has a workload already"),
                                  ("no file", f"{folder}/none", "is no program"), ("a folder", folder, "is no program"),
                                  ("no name", "", "is no program")):
