@@ -106,9 +106,12 @@ def check_results() -> None:
 
 # ---- new recordings ----
 
-def run(*words: str) -> tuple[int, str]:
+def run(*words: str, tries: int = 3) -> tuple[int, str]:
+    """A recording. On a busy machine QEMU may begin to follow the guest's code too late, so that the process is missed: then once more."""
     done = subprocess.run([RUN, *words], stdout=subprocess.PIPE, stderr=subprocess.STDOUT)
-    return done.returncode, done.stdout.decode()
+    said = done.stdout.decode()
+    is_missed = "nothing was watched" in said and tries > 1
+    return run(*words, tries=tries - 1) if is_missed else (done.returncode, said)
 
 
 def check_driver() -> None:
