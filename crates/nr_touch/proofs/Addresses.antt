@@ -2,33 +2,30 @@
 use Rattle.std.proofs.Common.{◌≡◌, ℕ, ◌+◌, ◌*◌, ◌<◌, ◌≤◌, ◌⊎◌, inl, inr, List, get_or, slice_get, length, Option, Some, None, Contains, refl, sym, ap, ◌∙◌, subst, arith}
 use Rattle.std.proofs.lemmas.Bool.{cases_lt}
 use Rattle.std.proofs.lemmas.Option.{same_Some, slice_get_within, slice_get-get_or}
-use Rattle.vs_types.specs.Space.{Space}
 use Rattle.vs_types.specs.declared.page.Page.{Page}
-use Rattle.nr_trace.specs.Recording.{Recording}
-use Rattle.nr_joined.specs.Run.{Run}
 use Rattle.nr_touch.specs.Releases.{FindsReached, IsReachable, IsReachedFrom}
+use Rattle.nr_touch.specs.inside.Joined.{Behind}
 use Rattle.nr_touch.specs.inside.Reached.{probe_at, FindsAddress, IsFirstFrame, IsLower, IsMetAt, LeadsBelow, LeadsSo}
-use Rattle.nr_touch.specs.declared.changes.change.PlacedChange.{PlacedChange}
 use Rattle.nr_touch.specs.declared.releases.release.Release.{Release}
 use Rattle.nr_touch.specs.declared.releases.seen.Seen.{Seen}
+use Rattle.nr_touch.specs.declared.touches.joined.Joined.{Joined}
 use Rattle.nr_touch.proofs.FirstWrong.{none_leads, nothing_leads, NoneLeadsBelow}
 use Rattle.nr_touch.proofs.Lefts.{in_got}
 
 -- the pages below an index lead there at no lower address
-abbrev pub IsLeastBelow : Space → Recording → List PlacedChange → Release → List Seen → ℕ → ℕ → Type 0
-IsLeastBelow start segment earlier release seen end address = (k : ℕ) (s : Seen) → k < end → slice_get seen k ≡ Some s
-    → (leads : LeadsSo start segment earlier release s.page) → address ≤ s.page.base + leads.frame * 4096
+abbrev pub IsLeastBelow : {joined : Joined} → Behind joined → Release → List Seen → ℕ → ℕ → Type 0
+IsLeastBelow b release seen end address = (k : ℕ) (s : Seen) → k < end → slice_get seen k ≡ Some s
+    → (leads : LeadsSo b release s.page) → address ≤ s.page.base + leads.frame * 4096
 
 -- of the pages below an index none leads there, or there is an address from which the memory is reached, and no lower one through these
-abbrev pub FindsBelow : Option Run → Space → Recording → List PlacedChange → Release → List Seen → ℕ → Option ℕ → Type 0
-FindsBelow before start segment earlier release seen end None = NoneLeadsBelow start segment earlier release seen end
-FindsBelow before start segment earlier release seen end (Some address) =
-    IsReachedFrom before start segment release address × IsLeastBelow start segment earlier release seen end address
+abbrev pub FindsBelow : {joined : Joined} → Behind joined → Release → List Seen → ℕ → Option ℕ → Type 0
+FindsBelow b release seen end None = NoneLeadsBelow b release seen end
+FindsBelow b release seen end (Some address) = IsReachedFrom b.before b.start b.segment release address × IsLeastBelow b release seen end address
 
 -- an address that is reached is one of an access that can be made
-can_reach : (before : Option Run) (start : Space) (segment : Recording) (release : Release) (address : ℕ)
-    → IsReachedFrom before start segment release address → (can : IsReachable before start segment release) × (can.touch.address ≡ address)
-can_reach before start segment release address it = (
+can_reach : {joined : Joined} (b : Behind joined) (release : Release) (address : ℕ)
+    → IsReachedFrom b.before b.start b.segment release address → (can : IsReachable b.before b.start b.segment release) × (can.touch.address ≡ address)
+can_reach b release address it = (
   record {
     touch = it.touch;
     made = it.made;
@@ -41,10 +38,10 @@ can_reach before start segment release address it = (
   it.of_it,
 )
 
-module _ (before : Option Run) (start : Space) (segment : Recording) (earlier : List PlacedChange) (release : Release) where
+module _ {joined : Joined} (b : Behind joined) (release : Release) where
   -- the address of a frame in which the memory is met
-  pub reached_in : (page : Page) (frame : ℕ) → IsMetAt before start segment release page (frame * 4096)
-      → IsReachedFrom before start segment release (page.base + frame * 4096)
+  pub reached_in : (page : Page) (frame : ℕ) → IsMetAt b release page (frame * 4096)
+      → IsReachedFrom b.before b.start b.segment release (page.base + frame * 4096)
   reached_in page frame met = record {
     touch = probe_at release.made (page.base + frame * 4096) (page.phys + frame * 4096);
     made = refl;
@@ -61,32 +58,31 @@ module _ (before : Option Run) (start : Space) (segment : Recording) (earlier : 
     last = get_or seen index d
 
     -- a page more, through which no lower address leads there
-    least_more : (address lower : ℕ) → lower ≤ address → IsLeastBelow start segment earlier release seen index address
-        → ((leads : LeadsSo start segment earlier release last.page) → lower ≤ last.page.base + leads.frame * 4096)
-        → IsLeastBelow start segment earlier release seen (index + 1) lower
+    least_more : (address lower : ℕ) → lower ≤ address → IsLeastBelow b release seen index address
+        → ((leads : LeadsSo b release last.page) → lower ≤ last.page.base + leads.frame * 4096) → IsLeastBelow b release seen (index + 1) lower
     least_more address lower less least here k s within at leads = by (cases_lt k index) where
       by : (k < index) ⊎ (index ≤ k) → lower ≤ s.page.base + leads.frame * 4096
       by (inl early) = let low = least k s early at leads in omega (arith, low, less)
       by (inr past) =
           let same : k ≡ index = omega (arith, past, within) in
           let one : last ≡ s = same_Some last s (sym (slice_get-get_or seen index d l) ∙ ap (slice_get seen) (sym same) ∙ at) in
-          (subst (λ (q : Seen). (it : LeadsSo start segment earlier release q.page) → lower ≤ q.page.base + it.frame * 4096) one here) leads
+          (subst (λ (q : Seen). (it : LeadsSo b release q.page) → lower ≤ q.page.base + it.frame * 4096) one here) leads
 
     -- the first frame of a page has its lowest address
-    lowest_in : (frame : ℕ) → IsFirstFrame before start segment earlier release last.page frame → (leads : LeadsSo start segment earlier release last.page)
+    lowest_in : (frame : ℕ) → IsFirstFrame b release last.page frame → (leads : LeadsSo b release last.page)
         → last.page.base + frame * 4096 ≤ last.page.base + leads.frame * 4096
     lowest_in frame first leads = let up = first.first leads in omega (arith, up)
 
     -- a page more that leads there, and the lower one of two addresses
     pub lower_reached : (least : Option ℕ) (frame other lower : ℕ) → other ≡ last.page.base + frame * 4096
-        → IsFirstFrame before start segment earlier release last.page frame → FindsBelow before start segment earlier release seen index least
-        → IsLower least other lower → FindsBelow before start segment earlier release seen (index + 1) (Some lower)
+        → IsFirstFrame b release last.page frame → FindsBelow b release seen index least
+        → IsLower least other lower → FindsBelow b release seen (index + 1) (Some lower)
     lower_reached None frame other lower at first none is =
         let same : lower ≡ last.page.base + frame * 4096 = is ∙ at in (
-          subst (IsReachedFrom before start segment release) (sym same) (reached_in last.page frame first.met),
+          subst (IsReachedFrom b.before b.start b.segment release) (sym same) (reached_in last.page frame first.met),
           (λ k s within at_k leads. by k s at_k leads within (cases_lt k index) same),
         ) where
-          by : (k : ℕ) (s : Seen) → slice_get seen k ≡ Some s → (leads : LeadsSo start segment earlier release s.page) → k < index + 1
+          by : (k : ℕ) (s : Seen) → slice_get seen k ≡ Some s → (leads : LeadsSo b release s.page) → k < index + 1
               → (k < index) ⊎ (index ≤ k) → lower ≡ last.page.base + frame * 4096 → lower ≤ s.page.base + leads.frame * 4096
           by k s at_k leads within (inl early) same = absurd (none k s early at_k leads)
           by k s at_k leads within (inr past) same =
@@ -96,24 +92,23 @@ module _ (before : Option Run) (start : Space) (segment : Recording) (earlier : 
       by (cases_lt other address),
       least_more address lower (omega (arith, is)) least (λ it. let low = lowest_in frame first it in omega (arith, low, at, is)),
     ) where
-      by : (other < address) ⊎ (address ≤ other) → IsReachedFrom before start segment release lower
+      by : (other < address) ⊎ (address ≤ other) → IsReachedFrom b.before b.start b.segment release lower
       by (inl less) =
           let same : lower ≡ last.page.base + frame * 4096 = omega (arith, is, less, at) in
-          subst (IsReachedFrom before start segment release) (sym same) (reached_in last.page frame first.met)
+          subst (IsReachedFrom b.before b.start b.segment release) (sym same) (reached_in last.page frame first.met)
       by (inr more) =
           let same : lower ≡ address = omega (arith, is, more) in
-          subst (IsReachedFrom before start segment release) (sym same) from
+          subst (IsReachedFrom b.before b.start b.segment release) (sym same) from
 
     -- a page more that doesn't lead there
-    pub none_more : (least : Option ℕ) → (LeadsSo start segment earlier release last.page → ⊥)
-        → FindsBelow before start segment earlier release seen index least → FindsBelow before start segment earlier release seen (index + 1) least
-    none_more None not none = none_leads start segment earlier release seen index d l not none
+    pub none_more : (least : Option ℕ) → (LeadsSo b release last.page → ⊥) → FindsBelow b release seen index least → FindsBelow b release seen (index + 1) least
+    none_more None not none = none_leads b release seen index d l not none
     none_more (Some address) not (from, least) = (from, least_more address address (omega arith) least (λ leads. absurd (not leads)))
 
   -- all pages
-  pub found_of_all : (seen : List Seen) (end : ℕ) (least : Option ℕ) → length seen ≤ end → FindsBelow before start segment earlier release seen end least
-      → FindsAddress before start segment earlier release seen least
-  found_of_all seen end None all none = nothing_leads start segment earlier release seen end all none
+  pub found_of_all : (seen : List Seen) (end : ℕ) (least : Option ℕ) → length seen ≤ end → FindsBelow b release seen end least
+      → FindsAddress b release seen least
+  found_of_all seen end None all none = nothing_leads b release seen end all none
   found_of_all seen end (Some address) all (from, least) = record {
     from = from;
     least = λ s has leads.
@@ -122,15 +117,14 @@ module _ (before : Option Run) (start : Space) (segment : Recording) (earlier : 
         least k s (omega (arith, low, all)) at leads;
   }
 
-  pub finds_reached : (seen : List Seen) (least : Option ℕ)
-      → ((can : IsReachable before start segment release)
-      → (s : Seen) × Contains seen s × LeadsBelow start segment earlier release can.touch.address s.page s.place)
-      → FindsAddress before start segment earlier release seen least → FindsReached before start segment release least
+  pub finds_reached : (seen : List Seen) (least : Option ℕ) → ((can : IsReachable b.before b.start b.segment release)
+      → (s : Seen) × Contains seen s × LeadsBelow b release can.touch.address s.page s.place)
+      → FindsAddress b release seen least → FindsReached b.before b.start b.segment release least
   finds_reached seen None leads none = λ can. let (s, has, below) = leads can in none (s, has, below.0)
   finds_reached seen (Some address) leads found = record {
     from = found.from;
     least = λ other reached.
-        let (can, of_it) = can_reach before start segment release other reached in
+        let (can, of_it) = can_reach b release other reached in
         let (s, has, below) = leads can in
         let low = found.least s has below.0 in
         let up = below.1 in

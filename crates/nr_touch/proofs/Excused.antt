@@ -1,6 +1,8 @@
 -- The newest entries that a touch may see, those that have each answered change of its address, and what excuses touches one by one.
 use Rattle.std.proofs.Common.{◌≡◌, ◌↔◌, ℕ, ◌+◌, ◌<◌, ◌≤◌, ◌^◌, ◌⊎◌, inl, inr, false, List, ◌∷◌, [], ◌++◌, get_or, length, slice_get, Option, Some, None}
-use Rattle.std.proofs.Common.{subst, sym, ap, ◌∙◌, arith}
+use Rattle.std.proofs.Common.{IsTrue, refl, subst, sym, ap, ◌∙◌, arith}
+use Rattle.std.specs.Prelude.{is_some, MatchOption}
+use Rattle.std.proofs.lemmas.Bool.{false≢true}
 use Rattle.std.proofs.lemmas.List.{get_or_append_left, get_or_push, length_push}
 use Rattle.std.proofs.lemmas.Option.{get_or_from_slice_get, slice_get_within, slice_get-get_or}
 use Rattle.vs_types.specs.Space.{Space}
@@ -10,57 +12,59 @@ use Rattle.nr_joined.specs.Run.{Run}
 use Rattle.nr_touch.specs.Excuses.{IsAnsweredAsNow, IsExcusedBehind, IsExcusedBy, IsNewestPrefix, IsUpToDate}
 use Rattle.nr_touch.specs.Stale.{AreRightBelow, FindsStale}
 use Rattle.nr_touch.specs.Touches.{touch_behind, ChangesLook, IsAnsweredInTime, IsMadeAfter, IsRightBehind, IsRightTouch}
-use Rattle.nr_touch.specs.inside.Changes.{ended_at, AreChanges}
+use Rattle.nr_touch.specs.inside.Changes.{ended_at}
 use Rattle.nr_touch.specs.inside.Columns.{Covers, IsAhead, IsPast}
+use Rattle.nr_touch.specs.inside.Joined.{Behind}
 use Rattle.nr_touch.specs.inside.Excused.{AreExcusedBelow, IsExcusedWith, IsOpenOrKept}
-use Rattle.nr_touch.specs.declared.changes.change.PlacedChange.{PlacedChange}
 use Rattle.nr_touch.specs.declared.touches.excuse.Excuse.{Excuse}
 use Rattle.nr_touch.specs.declared.touches.excuse.Excuse.TheVariants as excuses
+use Rattle.nr_touch.specs.declared.touches.joined.Joined.{Joined}
 use Rattle.nr_touch.specs.declared.touches.touch.Touch.{Touch}
 use Rattle.nr_touch.proofs.Lefts.{below_more}
 use Rattle.nr_touch.proofs.Walked.{last_within, none_foreseen, up_to_foreseen}
 use Rattle.nr_touch.proofs.cuts.Ended.{ends_past, past_ends}
 
-module _ (start : Space) (trace : Recording) (changes : List PlacedChange) (are : AreChanges start trace changes) (touch : Touch) (last places : ℕ)
-    (all : places ≡ length trace.log) (ahead : IsAhead changes (λ c. Covers touch.address c × (touch.answered < c.made)) places last) where
-  pub newest : IsNewestPrefix start trace touch last
+module _ {joined : Joined} (b : Behind joined) (touch : Touch) (last : ℕ)
+    (ahead : IsAhead joined.history.changes.items (λ c. Covers touch.address c × (touch.answered < c.made)) joined.places last) where
+  pub newest : IsNewestPrefix b.start b.segment touch last
   newest = record {
-    within = last_within start trace changes are touch last places all ahead;
-    not_foreseen = none_foreseen start trace changes are touch last places all ahead last (omega arith);
+    within = last_within b touch last ahead;
+    not_foreseen = none_foreseen b touch last ahead last (omega arith);
     most = elim ahead.some [
-      | inl whole ↦ inl (omega (arith, whole, all))
+      | inl whole ↦ inl (omega (arith, whole, b.places))
       | inr (c, has, (covered, late), at) ↦
-          let known = (are.each c has).0 in
-          inr (subst (λ (place : ℕ). ChangesLook start trace touch.address place × IsMadeAfter trace place touch.answered) (sym at)
+          let known = (b.own.each c has).0 in
+          inr (subst (λ (place : ℕ). ChangesLook b.start b.segment touch.address place × IsMadeAfter b.segment place touch.answered) (sym at)
           (known.differs touch.address covered, (c.made, known.made, late)))
     ];
   }
 
-  pub newest_is : (n : ℕ) → IsNewestPrefix start trace touch n → n ≡ last
+  pub newest_is : (n : ℕ) → IsNewestPrefix b.start b.segment touch n → n ≡ last
   newest_is n is =
-      let up = up_to_foreseen start trace changes are touch last places all ahead n is.within is.not_foreseen in
+      let up = up_to_foreseen b touch last ahead n is.within is.not_foreseen in
       let down = at_most n is in
       omega (arith, up, down) where
-        at_most : (m : ℕ) → IsNewestPrefix start trace touch m → last ≤ m
+        at_most : (m : ℕ) → IsNewestPrefix b.start b.segment touch m → last ≤ m
         at_most m it = elim it.most [
-          | inl whole ↦ let within = last_within start trace changes are touch last places all ahead in omega (arith, within, whole)
-          | inr (looks, late) ↦ none_foreseen start trace changes are touch last places all ahead last (omega arith) m looks late
+          | inl whole ↦ let within = last_within b touch last ahead in omega (arith, within, whole)
+          | inr (looks, late) ↦ none_foreseen b touch last ahead last (omega arith) m looks late
         ]
 
   -- entries that have each answered change of the address are those from the last such change on
-  pub up_to_date : (first : ℕ) → touch.made < 2 ^ 32 → IsPast changes (λ c. Covers touch.address c × (ended_at false c < touch.made)) first → (n : ℕ)
-      → IsUpToDate 0 start trace touch n ↔ ((first ≤ n) × (n ≤ last))
+  pub up_to_date : (first : ℕ) → touch.made < 2 ^ 32 → IsPast joined.history.changes.items (λ c. Covers touch.address c × (ended_at false c < touch.made)) first
+      → (n : ℕ) → IsUpToDate 0 b.start b.segment touch n ↔ ((first ≤ n) × (n ≤ last))
   up_to_date first fits past n = (
     λ is. (
-      past_ends start trace touch.address touch.made fits changes are None first past n is.has_answered,
-      up_to_foreseen start trace changes are touch last places all ahead n is.within is.not_foreseen,
+      past_ends b.start b.segment touch.address touch.made fits joined.history.changes.items b.own None first past n is.has_answered,
+      up_to_foreseen b touch last ahead n is.within is.not_foreseen,
     ),
     λ (low, high). record {
-      within = let most = last_within start trace changes are touch last places all ahead in omega (arith, most, high);
+      within = let most = last_within b touch last ahead in omega (arith, most, high);
       has_earlier = omega arith;
       has_answered = λ place looks early.
-          let less = ends_past start trace touch.address touch.made fits changes are None first past place looks early in omega (arith, less, low);
-      not_foreseen = none_foreseen start trace changes are touch last places all ahead n high;
+          let less = ends_past b.start b.segment touch.address touch.made fits joined.history.changes.items b.own None first past place looks early in
+          omega (arith, less, low);
+      not_foreseen = none_foreseen b touch last ahead n high;
     },
   )
 
@@ -86,6 +90,13 @@ pub right_excused : (before : Option Run) (start : Space) (segment : Recording) 
 right_excused None start segment touch excuse is = excused_right 0 start segment touch excuse is
 right_excused (Some run) start segment touch excuse is = excused_right (length run.trace.log) run.start (joined_traces run.trace segment)
     (touch_behind (length run.trace.events) (length run.trace.log) touch) excuse is
+
+-- what excuses a touch is found just where it is right
+pub right_where : (before : Option Run) (start : Space) (segment : Recording) (touch : Touch) (found : Option Excuse)
+    → MatchOption found (IsRightBehind before start segment touch → ⊥) (IsExcusedBehind before start segment touch)
+    → IsTrue (is_some found) ↔ IsRightBehind before start segment touch
+right_where before start segment touch None not = (λ t. absurd (false≢true t), λ right. absurd (not right))
+right_where before start segment touch (Some excuse) is = (λ t. right_excused before start segment touch excuse is, λ right. refl)
 
 -- ---- touch by touch
 

@@ -7,25 +7,25 @@ use Rattle.std.proofs.lemmas.Bool.Decides.{not_from_Decides}
 use Rattle.nr_trace.specs.Recording.{Recording}
 use Rattle.nr_joined.specs.Run.{Run}
 use Rattle.nr_touch.specs.Releases.{FindsReachable, IsWrongRelease, NoneWrongBelow}
+use Rattle.nr_touch.specs.inside.Joined.{Behind}
 use Rattle.nr_touch.specs.inside.Reached.{LeadsSo, SomeLeadsSo}
-use Rattle.nr_touch.specs.declared.changes.change.PlacedChange.{PlacedChange}
 use Rattle.nr_touch.specs.declared.releases.release.Release.{Release}
 use Rattle.nr_touch.specs.declared.releases.seen.Seen.{Seen}
+use Rattle.nr_touch.specs.declared.touches.joined.Joined.{Joined}
 use Rattle.nr_touch.proofs.Lefts.{below_more, in_got}
 
 -- ---- pages
 
 -- no page of these below an index leads there
-abbrev pub NoneLeadsBelow : Space → Recording → List PlacedChange → Release → List Seen → ℕ → Type 0
-NoneLeadsBelow start segment earlier release seen end = (k : ℕ) (s : Seen) → k < end → slice_get seen k ≡ Some s
-    → LeadsSo start segment earlier release s.page → ⊥
+abbrev pub NoneLeadsBelow : {joined : Joined} → Behind joined → Release → List Seen → ℕ → Type 0
+NoneLeadsBelow b release seen end = (k : ℕ) (s : Seen) → k < end → slice_get seen k ≡ Some s → LeadsSo b release s.page → ⊥
 
-module _ (start : Space) (segment : Recording) (earlier : List PlacedChange) (release : Release) (seen : List Seen) where
-  pub none_leads : (index : ℕ) (d : Seen) → index < length seen → (LeadsSo start segment earlier release (get_or seen index d).page → ⊥)
-      → NoneLeadsBelow start segment earlier release seen index → NoneLeadsBelow start segment earlier release seen (index + 1)
-  none_leads index d l not none = below_more (λ k s. LeadsSo start segment earlier release s.page → ⊥) seen index d l none not
+module _ {joined : Joined} (b : Behind joined) (release : Release) (seen : List Seen) where
+  pub none_leads : (index : ℕ) (d : Seen) → index < length seen → (LeadsSo b release (get_or seen index d).page → ⊥)
+      → NoneLeadsBelow b release seen index → NoneLeadsBelow b release seen (index + 1)
+  none_leads index d l not none = below_more (λ k s. LeadsSo b release s.page → ⊥) seen index d l none not
 
-  pub nothing_leads : (end : ℕ) → length seen ≤ end → NoneLeadsBelow start segment earlier release seen end → SomeLeadsSo start segment earlier release seen → ⊥
+  pub nothing_leads : (end : ℕ) → length seen ≤ end → NoneLeadsBelow b release seen end → SomeLeadsSo b release seen → ⊥
   nothing_leads end all none (s, has, leads) =
       let (k, at) = in_got seen s has in
       let l = slice_get_within seen k s at in

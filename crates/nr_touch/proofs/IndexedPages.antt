@@ -12,11 +12,12 @@ use Rattle.vs_types.specs.declared.page.Size.{Size}
 use Rattle.vs_types.proofs.Maps.{get-remove_other}
 use Rattle.vs_types.proofs.Pages.{covers_base, covers_means, same_aligned, same_page}
 use Rattle.vs_types.proofs.Spaces.{page_at_means}
-use Rattle.nr_touch.specs.inside.Indexed.{HasOwn}
+use Rattle.nr_touch.specs.inside.Indexed.{HasOwn, HavePresent}
 use Rattle.nr_touch.specs.inside.Reached.{IsRoomy}
 use Rattle.nr_touch.specs.inside.Undo.{LeadsTo}
 use Rattle.nr_touch.specs.declared.changes.change.Change.{Change}
 use Rattle.nr_touch.specs.declared.changes.change.PlacedChange.{PlacedChange}
+use Rattle.nr_touch.specs.declared.touches.joined.Joined.{Joined}
 use Rattle.vs_types.proofs.Lists.{Contains-cases, Contains-head, Contains-tail, not_in_nil}
 use Rattle.nr_touch.proofs.Replayed.{page_ends}
 
@@ -43,6 +44,12 @@ own_or_not (change ∷ changes) page = elim (cases_eq change.change.page.base pa
     ])
   ]
 ]
+
+-- the same pages by the same changes, listed elsewhere
+pub present_as : (joined : Joined) (listed : List PlacedChange) (present other : List Page) → listed ≡ joined.history.changes.items → other ≡ present
+    → ((page : Page) → Holds joined.space.space page → HasOwn listed page → Contains present page) → HavePresent joined other
+present_as joined listed present other is same all page holds own =
+    subst (λ (xs : List Page). Contains xs page) (sym same) (all page holds (subst (λ (cs : List PlacedChange). HasOwn cs page) (sym is) own))
 
 -- ---- the page that begins at a base
 

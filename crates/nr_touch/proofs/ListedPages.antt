@@ -3,10 +3,8 @@ use Rattle.std.proofs.Common.{◌≡◌, ℕ, ◌+◌, ◌*◌, ◌≤◌, ◌�
 use Rattle.std.proofs.Common.{arith}
 use Rattle.std.proofs.lemmas.Option.{slice_get_within}
 use Rattle.vs_types.specs.Page.{bytes_of}
-use Rattle.vs_types.specs.Space.{Space}
 use Rattle.vs_types.specs.declared.page.Page.{Page}
 use Rattle.vs_types.proofs.Lists.{get_left, get_right, Contains-head, Contains-tail}
-use Rattle.nr_trace.specs.Recording.{Recording}
 use Rattle.nr_touch.specs.Releases.{HasPhys}
 use Rattle.nr_touch.specs.Tails.{ends_look, HasNoEnd, IsLeft}
 use Rattle.nr_touch.specs.inside.Blocks.{whole, around, IsBlockOf}
@@ -15,13 +13,14 @@ use Rattle.nr_touch.specs.inside.Indexed.{IsIndexedAs}
 use Rattle.nr_touch.specs.inside.Lefts.{KeepLooks}
 use Rattle.nr_touch.specs.inside.Listed.{AreListed, AreWithin, IsListed}
 use Rattle.nr_touch.specs.inside.Overs.{AddsNote, IsNoted, KnowsNothing}
+use Rattle.nr_touch.specs.inside.Joined.{Behind}
 use Rattle.nr_touch.specs.inside.Reached.{IsOpen, IsOpenThere, IsSamePlace, LeadsSo}
-use Rattle.nr_touch.specs.declared.changes.change.PlacedChange.{PlacedChange}
 use Rattle.nr_touch.specs.declared.releases.lingering.Lingering.{Lingering}
 use Rattle.nr_touch.specs.declared.releases.overs.Over.{Over}
 use Rattle.nr_touch.specs.declared.releases.overs.Overs.{Overs}
 use Rattle.nr_touch.specs.declared.releases.release.Release.{Release}
 use Rattle.nr_touch.specs.declared.touches.tail.Left.{Left}
+use Rattle.nr_touch.specs.declared.touches.joined.Joined.{Joined}
 use Rattle.nr_touch.proofs.ChangedRows.{same_place}
 use Rattle.nr_touch.proofs.OverRows.{answered_later}
 use Rattle.nr_touch.proofs.cuts.Lefts.{left_parts}
@@ -53,10 +52,9 @@ none_gone P lingering gone none nothing are = record {
 }
 
 -- what is open at an event was so before
-pub open_before : (start : Space) (segment : Recording) (earlier : List PlacedChange) (event later : ℕ) → event ≤ later → (address : ℕ) (page : Option Page)
-    → IsOpen start segment earlier later address page → IsOpen start segment earlier event address page
-open_before start segment earlier event later up address page (none, it) =
-    ((λ place ends early. none place ends (answered_later segment place event later up early)), it)
+pub open_before : {joined : Joined} (b : Behind joined) (event later : ℕ) → event ≤ later → (address : ℕ) (page : Option Page)
+    → IsOpen b later address page → IsOpen b event address page
+open_before b event later up address page (none, it) = ((λ place ends early. none place ends (answered_later b.segment place event later up early)), it)
 
 -- a page that is left is that before a change which doesn't end it
 left_from : (changes : List Left) (address : ℕ) (page : Option Page) → IsLeft changes address page
@@ -138,11 +136,10 @@ from_first lingering gone release block first page frame (inr (over, noted, rows
     (omega (arith, has.0, phys), omega (arith, has.1, phys, size)) in
     omega (arith, low, rows)
 
-module _ (start : Space) (segment : Recording) (earlier : List PlacedChange) (release : Release) where
+module _ {joined : Joined} (b : Behind joined) (release : Release) where
   -- a page of its place leads there
-  own_leads : (own page : Page) (frame : ℕ) → IsSamePlace own page → IsOpenThere start segment earlier release page frame
-      → LeadsSo start segment earlier release own
-  own_leads own page frame same there = (same_place start segment earlier release own page 0 0 same (omega arith) (
+  own_leads : (own page : Page) (frame : ℕ) → IsSamePlace own page → IsOpenThere b release page frame → LeadsSo b release own
+  own_leads own page frame same there = (same_place b release own page 0 0 same (omega arith) (
     record {
       frame = frame;
       within = there.within;
@@ -157,10 +154,9 @@ module _ (start : Space) (segment : Recording) (earlier : List PlacedChange) (re
   -- what is open there leads there by a page that is listed, from this number on
   pub leads_listed : (lingering : Lingering) (gone : Overs) (block first : ℕ)
       → (first ≡ 0) ⊎ ((over : Over) × IsNoted gone release block over × (over.rows ≡ first))
-      → AreListed (IsOpen start segment earlier release.made) lingering gone → (page : Page) (frame : ℕ)
-      → IsOpenThere start segment earlier release page frame → IsBlockOf page block → {Q : Type 0}
+      → AreListed (IsOpen b release.made) lingering gone → (page : Page) (frame : ℕ) → IsOpenThere b release page frame → IsBlockOf page block → {Q : Type 0}
       → ((own : Page) (number : ℕ) → slice_get lingering.pages.items number ≡ Some own → IsIndexedAs lingering.index own number → IsBlockOf own block
-      → first ≤ number → LeadsSo start segment earlier release own → Q) → Q
+      → first ≤ number → LeadsSo b release own → Q) → Q
   leads_listed lingering gone block first from are page frame there of says =
       let it = are.each page frame there.within there.open_so in
       says it.own it.number it.at it.indexed (same_block it.own page block it.same of)
@@ -168,8 +164,8 @@ module _ (start : Space) (segment : Recording) (earlier : List PlacedChange) (re
 
   -- what was compared in vain is over
   pub gone_more : (lingering : Lingering) (old new : Overs) (block many : ℕ) → AddsNote old release block many new → many ≡ length lingering.pages.items
-      → ((page : Page) (frame : ℕ) → IsOpenThere start segment earlier release page frame → IsBlockOf page block → ⊥)
-      → AreListed (IsOpen start segment earlier release.made) lingering old → AreListed (IsOpen start segment earlier release.made) lingering new
+      → ((page : Page) (frame : ℕ) → IsOpenThere b release page frame → IsBlockOf page block → ⊥)
+      → AreListed (IsOpen b release.made) lingering old → AreListed (IsOpen b release.made) lingering new
   gone_more lingering old new block many adds all none are = record {
     within = λ key over at. elim (adds key over at) [
       | inl was ↦ are.within key over was

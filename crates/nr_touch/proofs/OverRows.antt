@@ -1,25 +1,24 @@
 -- The rows that are over for the memory of a release.
-use Rattle.std.proofs.Common.{◌≡◌, ℕ, ◌+◌, ◌*◌, ◌<◌, ◌≤◌, inl, inr, Bool, true, false, cond, List, Contains, get_or, length, max, slice_get, Some}
+use Rattle.std.proofs.Common.{◌≡◌, ℕ, ◌+◌, ◌*◌, ◌<◌, ◌≤◌, inl, inr, Bool, true, false, cond, Contains, get_or, length, max, slice_get, Some}
 use Rattle.std.proofs.Common.{refl, sym, ap, ◌∙◌, subst, arith}
 use Rattle.std.proofs.lemmas.Bool.{cases_lt}
 use Rattle.std.proofs.lemmas.Option.{same_Some}
 use Rattle.vs_types.specs.Page.{bytes_of}
-use Rattle.vs_types.specs.Space.{Space}
 use Rattle.vs_types.specs.declared.page.Size.{Size}
 use Rattle.nr_trace.specs.Recording.{Recording}
 use Rattle.nr_touch.specs.Releases.{HasPhys}
 use Rattle.nr_touch.specs.Touches.{IsAnsweredBefore}
 use Rattle.nr_touch.specs.inside.Blocks.{IsBlockOf}
-use Rattle.nr_touch.specs.inside.Changes.{AreChanges}
 use Rattle.nr_touch.specs.inside.Lives.{HaveRows}
 use Rattle.nr_touch.specs.inside.Overs.{AddsNote, AreKnown, AreOver, IsAgain, IsOver, IsSettled}
+use Rattle.nr_touch.specs.inside.Joined.{Behind}
 use Rattle.nr_touch.specs.inside.Reached.{FindsAt, LeadsBy, LeadsSo}
 use Rattle.nr_touch.specs.inside.Stays.{AreStretches}
-use Rattle.nr_touch.specs.declared.changes.change.PlacedChange.{PlacedChange}
 use Rattle.nr_touch.specs.declared.releases.changed.Changed.{Changed}
 use Rattle.nr_touch.specs.declared.releases.overs.Overs.{Overs}
 use Rattle.nr_touch.specs.declared.releases.release.Release.{Release}
 use Rattle.nr_touch.specs.declared.releases.stays.Stay.{Stay}
+use Rattle.nr_touch.specs.declared.touches.joined.Joined.{Joined}
 use Rattle.nr_touch.proofs.ChangedRows.{NoneLeadsFrom}
 use Rattle.nr_touch.proofs.Lefts.{in_got}
 use Rattle.nr_touch.proofs.cuts.Ended.{change_within}
@@ -37,14 +36,12 @@ answered_later segment place event later up (call, at, (reply, less, answers)) =
 -- ---- a stay that leads nowhere now
 
 -- if it ends before a release, it is over
-pub ended_over : (start : Space) (segment : Recording) (earlier : List PlacedChange) (release : Release) (stay : Stay) → stay.until < release.made
-    → IsOver start segment earlier release stay
-ended_over start segment earlier release stay ended later again until leads = let up = again.made in omega (arith, ended, until, up)
+pub ended_over : {joined : Joined} (b : Behind joined) (release : Release) (stay : Stay) → stay.until < release.made → IsOver b release stay
+ended_over b release stay ended later again until leads = let up = again.made in omega (arith, ended, until, up)
 
-module _ (start : Space) (segment : Recording) (own earlier : List PlacedChange) (are : AreChanges start segment own) (release : Release) (stay : Stay) where
+module _ {joined : Joined} (b : Behind joined) (release : Release) (stay : Stay) where
   -- so later on, if the changes before its place were made
-  pub settled_over : IsSettled own release stay.page stay.place → (LeadsSo start segment earlier release stay.page → ⊥)
-      → IsOver start segment earlier release stay
+  pub settled_over : IsSettled joined.history.changes.items release stay.page stay.place → (LeadsSo b release stay.page → ⊥) → IsOver b release stay
   settled_over settled not later again until (leads, low) = not (record {
     frame = leads.frame;
     within = leads.within;
@@ -66,21 +63,21 @@ module _ (start : Space) (segment : Recording) (own earlier : List PlacedChange)
           (subst (λ (n : ℕ). phys < n + bytes_of later.size) again.phys leads.has.1),
     )
 
-    by : FindsAt start segment earlier later.made leads.own address leads.finds.0 → FindsAt start segment earlier release.made leads.own address leads.finds.0
+    by : FindsAt b later.made leads.own address leads.finds.0 → FindsAt b release.made leads.own address leads.finds.0
     by (inr (none, it)) = inr (
-      (λ place ends early. none place ends (answered_later segment place release.made later.made again.made early)),
+      (λ place ends early. none place ends (answered_later b.segment place release.made later.made again.made early)),
       it,
     )
     by (inl (allowed, at)) = inl (
       record {
         within = allowed.within;
-        flushed = λ place ends early. allowed.flushed place ends (answered_later segment place release.made later.made again.made early);
+        flushed = λ place ends early. allowed.flushed place ends (answered_later b.segment place release.made later.made again.made early);
         not_foreseen = λ place looks (call, made, late). elim (cases_lt place leads.finds.0) [
           | inl less ↦
-              let (c, contains, same, covered) = are.all place address (change_within start segment address place looks) looks in
+              let (c, contains, same, covered) = b.own.all place address (change_within b.start b.segment address place looks) looks in
               let before : c.place < stay.place = omega (arith, same, less, low) in
               let fine = settled leads.frame c leads.within has contains covered before in
-              let one : c.made ≡ call = same_Some c.made call (sym (are.each c contains).0.made ∙ ap (slice_get segment.log) same ∙ made) in
+              let one : c.made ≡ call = same_Some c.made call (sym (b.own.each c contains).0.made ∙ ap (slice_get b.segment.log) same ∙ made) in
               absurd (omega (arith, one, fine, late))
           | inr past ↦ past
         ];
@@ -90,30 +87,28 @@ module _ (start : Space) (segment : Recording) (own earlier : List PlacedChange)
 
 -- ---- the rows of a block
 
-module _ (start : Space) (segment : Recording) (earlier : List PlacedChange) (changed : Changed) (release : Release) (block : ℕ) where
+module _ {joined : Joined} (b : Behind joined) (changed : Changed) (release : Release) (block : ℕ) where
   -- what is over from a release on is over from a later one of its memory on
-  pub over_again : (before : Release) → IsAgain before release → (end : ℕ) → AreOver start segment earlier changed before block 0 end
-      → AreOver start segment earlier changed release block 0 end
+  pub over_again : (before : Release) → IsAgain before release → (end : ℕ) → AreOver b changed before block 0 end → AreOver b changed release block 0 end
   over_again before again end over k stay low less own at later then = over k stay low less own at later (again_and_again before release later again then)
 
-  pub over_from : (begin end : ℕ) → AreOver start segment earlier changed release block 0 end → AreOver start segment earlier changed release block begin end
+  pub over_from : (begin end : ℕ) → AreOver b changed release block 0 end → AreOver b changed release block begin end
   over_from begin end over k stay low less = over k stay (omega arith) less
 
   -- the stays of a stretch are over behind its last event
   pub stretch_over : AreStretches changed.stays.items changed.lives.rows.items changed.stretches.since.items changed.stretches.until.items
       (length changed.lives.rows.items) → (last end over : ℕ) → end ≡ last + 1 → last < length changed.lives.rows.items
-      → get_or changed.stretches.until.items last 0 < release.made → AreOver start segment earlier changed release block end over
-      → AreOver start segment earlier changed release block (get_or changed.stretches.since.items last 0) over
+      → get_or changed.stretches.until.items last 0 < release.made → AreOver b changed release block end over
+      → AreOver b changed release block (get_or changed.stretches.since.items last 0) over
   stretch_over are last end over next within ended all k stay low less own at = elim (cases_lt last k) [
     | inl behind ↦ all k stay (omega (arith, next, behind)) less own at
-    | inr here ↦ let ends = are.over last k within low here stay at in ended_over start segment earlier release stay (omega (arith, ends, ended))
+    | inr here ↦ let ends = are.over last k within low here stay at in ended_over b release stay (omega (arith, ends, ended))
   ]
 
   -- a row more, which is over or isn't
   pub row_over : (last end over : ℕ) (is_over : Bool) (more : ℕ) → end ≡ last + 1 → more ≡ cond is_over (max over end) last
       → (is_over ≡ true → (stay : Stay) → slice_get changed.stays.items (get_or changed.lives.rows.items last 0) ≡ Some stay
-      → IsOver start segment earlier release stay) → AreOver start segment earlier changed release block end over
-      → AreOver start segment earlier changed release block last more
+      → IsOver b release stay) → AreOver b changed release block end over → AreOver b changed release block last more
   row_over last end over true more next sum this all k stay low less own at = elim (cases_lt last k) [
     | inl behind ↦ all k stay (omega (arith, next, behind)) (omega (arith, sum, less, next, behind)) own at
     | inr here ↦
@@ -124,8 +119,7 @@ module _ (start : Space) (segment : Recording) (earlier : List PlacedChange) (ch
 
   -- all rows, where those before an index are of other blocks, but for those that were over before
   pub all_over : (before end over : ℕ) → ((k : ℕ) → before ≤ k → k < end → get_or changed.lives.blocks.items k 0 ≡ block → ⊥)
-      → AreOver start segment earlier changed release block 0 before → AreOver start segment earlier changed release block end over
-      → AreOver start segment earlier changed release block 0 over
+      → AreOver b changed release block 0 before → AreOver b changed release block end over → AreOver b changed release block 0 over
   all_over before end over early known all k stay low less own at = elim (cases_lt k before) [
     | inl first ↦ known k stay low first own at
     | inr past ↦ elim (cases_lt k end) [
@@ -136,10 +130,9 @@ module _ (start : Space) (segment : Recording) (earlier : List PlacedChange) (ch
 
   -- no stay leads there, where no row from that index on does
   pub none_of_block : HaveRows changed.stays.items changed.lives → (before end : ℕ)
-      → ((k : ℕ) → before ≤ k → k < end → get_or changed.lives.blocks.items k 0 ≡ block → ⊥)
-      → AreOver start segment earlier changed release block 0 before
-      → NoneLeadsFrom start segment earlier release changed.stays.items changed.lives block end → (stay : Stay) → Contains changed.stays.items stay
-      → IsBlockOf stay.page block → stay.from ≤ release.made → release.made ≤ stay.until → LeadsBy start segment earlier release stay.page stay.place → ⊥
+      → ((k : ℕ) → before ≤ k → k < end → get_or changed.lives.blocks.items k 0 ≡ block → ⊥) → AreOver b changed release block 0 before
+      → NoneLeadsFrom b release changed.stays.items changed.lives block end → (stay : Stay) → Contains changed.stays.items stay
+      → IsBlockOf stay.page block → stay.from ≤ release.made → release.made ≤ stay.until → LeadsBy b release stay.page stay.place → ⊥
   none_of_block have before end early known none stay has of first last leads =
       let (row, at) = in_got changed.stays.items stay has in
       let (k, less, own, from, until, is) = have stay row block release.made at of first last in
@@ -153,13 +146,11 @@ module _ (start : Space) (segment : Recording) (earlier : List PlacedChange) (ch
       ]
 
 -- what is known with one note more
-pub known_more : (start : Space) (segment : Recording) (earlier : List PlacedChange) (changed : Changed) (old new : Overs) (release : Release) (block rows : ℕ)
-    → AddsNote old release block rows new → AreKnown start segment earlier changed old → AreOver start segment earlier changed release block 0 rows
-    → AreKnown start segment earlier changed new
-known_more start segment earlier changed old new release block rows adds known now key over at = elim (adds key over at) [
+pub known_more : {joined : Joined} (b : Behind joined) (changed : Changed) (old new : Overs) (release : Release) (block rows : ℕ)
+    → AddsNote old release block rows new → AreKnown b changed old → AreOver b changed release block 0 rows → AreKnown b changed new
+known_more b changed old new release block rows adds known now key over at = elim (adds key over at) [
   | inl was ↦ known key over was
   | inr (of_release, of_block, many) ↦
-      subst (λ (r : Release). AreOver start segment earlier changed r over.block 0 over.rows) (sym of_release)
-      (subst (λ (b : ℕ). AreOver start segment earlier changed release b 0 over.rows) (sym of_block)
-      (subst (λ (n : ℕ). AreOver start segment earlier changed release block 0 n) (sym many) now))
+      subst (λ (r : Release). AreOver b changed r over.block 0 over.rows) (sym of_release)
+      (subst (λ (n : ℕ). AreOver b changed release n 0 over.rows) (sym of_block) (subst (λ (n : ℕ). AreOver b changed release block 0 n) (sym many) now))
 ]

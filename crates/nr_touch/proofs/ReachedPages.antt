@@ -7,36 +7,35 @@ use Rattle.std.proofs.lemmas.Bool.Decides.{nat_tests}
 use Rattle.std.proofs.lemmas.Option.{same_Some}
 use Rattle.vs_types.specs.Access.{allows, fault_code}
 use Rattle.vs_types.specs.Page.{bytes_of, covers}
-use Rattle.vs_types.specs.Space.{Space, page_at, pages, IsSpace}
+use Rattle.vs_types.specs.Space.{Space, page_at, pages}
 use Rattle.vs_types.specs.Step.{allow_in_page}
 use Rattle.vs_types.specs.declared.access.Access.{Access}
 use Rattle.vs_types.specs.declared.access.Access.TheVariants.{Read}
 use Rattle.vs_types.specs.declared.access.Mode.{Mode}
 use Rattle.vs_types.specs.declared.access.Mode.TheVariants.{Supervisor}
 use Rattle.vs_types.specs.declared.answer.Answer.TheVariants.{Allowed, Fault}
-use Rattle.vs_types.specs.declared.depth.Depth.{Depth}
 use Rattle.vs_types.specs.declared.page.Page.{Page}
 use Rattle.vs_types.proofs.Pages.{covers_means}
 use Rattle.vs_types.proofs.Spaces.{holds_listed, page_at_means}
-use Rattle.nr_trace.specs.Recording.{Recording}
 use Rattle.nr_trace.specs.Orders.{space_from}
-use Rattle.nr_joined.specs.Run.{Run}
 use Rattle.nr_touch.specs.Releases.{HasPhys, IsReachable}
-use Rattle.nr_touch.specs.Tails.{GoesOn}
 use Rattle.nr_touch.specs.Touches.{page_after, ChangesLook, EndsLook, IsAllowedPrefix, IsAnsweredBefore, IsMadeAfter, IsRightTouch, IsRightBehind, TakesAway}
-use Rattle.nr_touch.specs.inside.Changes.{number_of, page_before, taken_at, AreChanges}
+use Rattle.nr_touch.specs.inside.Changes.{number_of, page_before, taken_at}
 use Rattle.nr_touch.specs.inside.Columns.{Covers, IsNumbered, IsOf}
 use Rattle.nr_touch.specs.inside.Alike.{AreAlike}
-use Rattle.nr_touch.specs.inside.Earlier.{AreOfRun, EndsNowhere, IsLeftAt}
+use Rattle.nr_touch.specs.inside.Earlier.{EndsNowhere, IsLeftAt}
+use Rattle.nr_touch.specs.inside.Joined.{Behind, IsBuilt}
+use Rattle.nr_touch.specs.inside.Levels.{left_in}
 use Rattle.nr_touch.specs.inside.Reached.{probe_at, seen_before, seen_left, seen_now, AreSeen, IsAlive, FindsAt, IsMetAt, IsOpen, IsOpenThere, IsRoomy, IsSamePlace, LeadsBelow, LeadsSo, LeadsThere}
 use Rattle.nr_touch.specs.declared.changes.change.Change.{Change}
 use Rattle.nr_touch.specs.declared.changes.change.PlacedChange.{PlacedChange}
 use Rattle.nr_touch.specs.declared.releases.release.Release.{Release}
 use Rattle.nr_touch.specs.declared.releases.seen.Seen.{Seen}
+use Rattle.nr_touch.specs.declared.touches.joined.Joined.{Joined}
 use Rattle.nr_touch.specs.declared.touches.touch.Touch.{Touch}
 use Rattle.nr_touch.proofs.Blocks.{frame_covered, in_frame, of_frames}
 use Rattle.nr_touch.proofs.cuts.Ended.{change_within, ended_before, ends_changes}
-use Rattle.nr_touch.proofs.cuts.Tails.{parts_behind}
+use Rattle.nr_touch.proofs.cuts.Tails.{parts_of}
 use Rattle.nr_touch.proofs.NextChanges.{first_within, same_within, FirstWithin, NoneWithin}
 use Rattle.nr_touch.proofs.Sizes.{covered_numbered, own_number}
 
@@ -100,8 +99,8 @@ record FoundPage (own : List PlacedChange) (seen : List Seen) (event a : ℕ) (p
   pub from : n ≤ s.place
 
 -- a frame of a page with room was left to look so, and is so at a release that has it
-abbrev pub ReachedOpen : Space → Recording → List PlacedChange → Release → Type 0
-ReachedOpen start segment earlier release = (page : Page) × (frame : ℕ) × IsRoomy page × IsOpenThere start segment earlier release page frame
+abbrev pub ReachedOpen : {joined : Joined} → Behind joined → Release → Type 0
+ReachedOpen b release = (page : Page) × (frame : ℕ) × IsRoomy page × IsOpenThere b release page frame
 
 -- the frame of an address of a page, which a release has
 record InPage (release : Release) (page : Page) (a : ℕ) : Type 0 where
@@ -130,223 +129,239 @@ frame_in release page a phys aligned roomy covered is shared =
     }
 
 -- a page that is seen and alive leads there at or below an address, and shares memory with the release
-pub record ReachedPage (start : Space) (segment : Recording) (own earlier : List PlacedChange) (seen : List Seen) (release : Release) (address : ℕ)
-    : Type 0 where
+pub record ReachedPage {joined : Joined} (b : Behind joined) (seen : List Seen) (release : Release) (address : ℕ) : Type 0 where
   pub s : Seen
   pub has : Contains seen s
-  pub alive : IsAlive own s release.made
+  pub alive : IsAlive joined.history.changes.items s release.made
   pub phys : ℕ
   pub shared : HasPhys release phys
   pub low : s.page.phys ≤ phys
   pub high : phys < s.page.phys + bytes_of s.page.size
-  pub leads : LeadsBelow start segment earlier release address s.page s.place
+  pub leads : LeadsBelow b release address s.page s.place
 
-module _ (start : Space) (segment : Recording) (own : List PlacedChange) (are : AreChanges start segment own)
-    (space : Space) (depth : Depth) (is_space : IsSpace depth space) (whole : space ≡ space_from start segment segment.log) where
-  pub changes_alike : (a b place : ℕ) → AreAlike own a b → ChangesLook start segment a place → ChangesLook start segment b place
-  changes_alike a b place alike looks =
-      let (c, has, at, covered) = are.all place a (change_within start segment a place looks) looks in
-      subst (ChangesLook start segment b) at ((are.each c has).0.differs b ((alike c has).0 covered))
+module _ {joined : Joined} (built : IsBuilt joined) (b : Behind joined) where
+  abbrev own : List PlacedChange
+  own = joined.history.changes.items
 
-  pub takes_alike : (a b place : ℕ) → AreAlike own a b → TakesAway start segment a place → TakesAway start segment b place
-  takes_alike a b place alike taken =
-      let looks = ends_changes (Some taken.page) (page_after start segment a place) (page_after start segment a (place + 1)) taken in
-      let (c, has, at, covered) = are.all place a (change_within start segment a place looks) looks in
-      let known = (are.each c has).0 in
-      subst (TakesAway start segment b) at ((known.takes b ((alike c has).0 covered)).0
-      ((known.takes a covered).1 (subst (TakesAway start segment a) (sym at) taken)))
+  abbrev earlier : List PlacedChange
+  earlier = left_in joined.earlier.items
 
-  none_alike : (a b m n : ℕ) → AreAlike own a b → NoneWithin start segment a m n → NoneWithin start segment b m n
-  none_alike a b m n alike none place low high looks = none place low high (changes_alike b a place (alike_back own a b alike) looks)
+  pub changes_alike : (a other place : ℕ) → AreAlike own a other → ChangesLook b.start b.segment a place → ChangesLook b.start b.segment other place
+  changes_alike a other place alike looks =
+      let (c, has, at, covered) = b.own.all place a (change_within b.start b.segment a place looks) looks in
+      subst (ChangesLook b.start b.segment other) at ((b.own.each c has).0.differs other ((alike c has).0 covered))
 
-  at_end : (a : ℕ) → page_after start segment a (length segment.log) ≡ page_at space a
+  pub takes_alike : (a other place : ℕ) → AreAlike own a other → TakesAway b.start b.segment a place → TakesAway b.start b.segment other place
+  takes_alike a other place alike taken =
+      let looks = ends_changes (Some taken.page) (page_after b.start b.segment a place) (page_after b.start b.segment a (place + 1)) taken in
+      let (c, has, at, covered) = b.own.all place a (change_within b.start b.segment a place looks) looks in
+      let known = (b.own.each c has).0 in
+      subst (TakesAway b.start b.segment other) at ((known.takes other ((alike c has).0 covered)).0
+      ((known.takes a covered).1 (subst (TakesAway b.start b.segment a) (sym at) taken)))
+
+  none_alike : (a other m n : ℕ) → AreAlike own a other → NoneWithin b.start b.segment a m n → NoneWithin b.start b.segment other m n
+  none_alike a other m n alike none place low high looks = none place low high (changes_alike other a place (alike_back own a other alike) looks)
+
+  at_end : (a : ℕ) → page_after b.start b.segment a (length b.segment.log) ≡ page_at joined.space.space a
   at_end a =
-      ap (λ (calls : List ℕ). page_at (space_from start segment calls) a) (take-length segment.log) ∙ ap (λ (s : Space). page_at s a) (sym whole)
+      ap (λ (calls : List ℕ). page_at (space_from b.start b.segment calls) a) (take-length b.segment.log) ∙ ap (λ (s : Space). page_at s a) (sym b.space)
 
   -- an address with the same changes, which the page has, looks so too
-  pub looks_alike : (a b n : ℕ) (page : Page) → AreAlike own a b → IsTrue (covers page b) → n ≤ length segment.log
-      → page_after start segment a n ≡ Some page → page_after start segment b n ≡ Some page
-  looks_alike a b n page alike covers_b low at = by (first_within start segment a n (length segment.log) low) where
-    by : NoneWithin start segment a n (length segment.log) ⊎ FirstWithin start segment a n (length segment.log) → page_after start segment b n ≡ Some page
+  pub looks_alike : (a other n : ℕ) (page : Page) → AreAlike own a other → IsTrue (covers page other) → n ≤ length b.segment.log
+      → page_after b.start b.segment a n ≡ Some page → page_after b.start b.segment other n ≡ Some page
+  looks_alike a other n page alike covers_other low at = by (first_within b.start b.segment a n (length b.segment.log) low) where
+    by : NoneWithin b.start b.segment a n (length b.segment.log) ⊎ FirstWithin b.start b.segment a n (length b.segment.log)
+        → page_after b.start b.segment other n ≡ Some page
     by (inl none) =
-        let here : page_at space a ≡ Some page = sym (at_end a) ∙ sym (same_within start segment a n (length segment.log) low none) ∙ at in
-        same_within start segment b n (length segment.log) low (none_alike a b n (length segment.log) alike none)
-        ∙ at_end b ∙ (page_at_means is_space b page).1 (((page_at_means is_space a page).0 here).0, covers_b)
+        let here : page_at joined.space.space a ≡ Some page = sym (at_end a) ∙ sym (same_within b.start b.segment a n (length b.segment.log) low none) ∙ at in
+        same_within b.start b.segment other n (length b.segment.log) low (none_alike a other n (length b.segment.log) alike none)
+        ∙ at_end other ∙ (page_at_means built.is_space other page).1 (((page_at_means built.is_space a page).0 here).0, covers_other)
     by (inr (p, from, high, looks, none)) =
-        let (c, has, place, covered) = are.all p a high looks in
-        let known = (are.each c has).0 in
-        same_within start segment b n p from (none_alike a b n p alike none)
-        ∙ ap (page_after start segment b) (sym place)
-        ∙ known.was b ((alike c has).0 covered)
-        ∙ sym (known.was a covered) ∙ ap (page_after start segment a) place
-        ∙ sym (same_within start segment a n p from none) ∙ at
+        let (c, has, place, covered) = b.own.all p a high looks in
+        let known = (b.own.each c has).0 in
+        same_within b.start b.segment other n p from (none_alike a other n p alike none) ∙ ap (page_after b.start b.segment other) (sym place)
+        ∙ known.was other ((alike c has).0 covered) ∙ sym (known.was a covered) ∙ ap (page_after b.start b.segment a) place
+        ∙ sym (same_within b.start b.segment a n p from none) ∙ at
 
   -- ---- which page is found
 
-  module _ (earlier : List PlacedChange) (event : ℕ) (page : Page) where
+  module _ (event : ℕ) (page : Page) where
     -- an address with the same changes is left so too
-    pub alike_open : (a b : ℕ) → AreAlike own a b → AreAlike earlier a b → IsOpen start segment earlier event a (Some page)
-        → IsOpen start segment earlier event b (Some page)
-    alike_open a b alike left_alike (none, it) = (
-      (λ place taken early. none place (takes_alike b a place (alike_back own a b alike) taken) early),
+    pub alike_open : (a other : ℕ) → AreAlike own a other → AreAlike earlier a other → IsOpen b event a (Some page) → IsOpen b event other (Some page)
+    alike_open a other alike left_alike (none, it) = (
+      (λ place taken early. none place (takes_alike other a place (alike_back own a other alike) taken) early),
       record {
         change = it.change;
         has = it.has;
         covers_it = (left_alike it.change it.has).0 it.covers_it;
-        still_open = λ other has_other covers_it early. it.still_open other has_other ((left_alike other has_other).1 covers_it) early;
+        still_open = λ later has_later covers_it early. it.still_open later has_later ((left_alike later has_later).1 covers_it) early;
         looks = it.looks;
       },
     )
 
     -- an address of the page with the same changes may be found so too
-    pub alike_finds : (a b n : ℕ) → AreAlike own a b → AreAlike earlier a b → IsTrue (covers page b) → FindsAt start segment earlier event page a n
-        → FindsAt start segment earlier event page b n
-    alike_finds a b n alike left_alike covers_b (inl (allowed, at)) =
-        let looks = looks_alike a b n page alike covers_b allowed.within at in
-        let back = alike_back own a b alike in
+    pub alike_finds : (a other n : ℕ) → AreAlike own a other → AreAlike earlier a other → IsTrue (covers page other) → FindsAt b event page a n
+        → FindsAt b event page other n
+    alike_finds a other n alike left_alike covers_other (inl (allowed, at)) =
+        let looks = looks_alike a other n page alike covers_other allowed.within at in
+        let back = alike_back own a other alike in
         inl (
           record {
             within = allowed.within;
             flushed = λ place ends before.
-                let taken = takes_alike b a place back (subst (λ (o : Option Page). EndsLook start segment b o place) looks ends) in
-                allowed.flushed place (subst (λ (o : Option Page). EndsLook start segment a o place) (sym at) taken) before;
-            not_foreseen = λ place changes late. allowed.not_foreseen place (changes_alike b a place back changes) late;
+                let taken = takes_alike other a place back (subst (λ (o : Option Page). EndsLook b.start b.segment other o place) looks ends) in
+                allowed.flushed place (subst (λ (o : Option Page). EndsLook b.start b.segment a o place) (sym at) taken) before;
+            not_foreseen = λ place changes late. allowed.not_foreseen place (changes_alike other a place back changes) late;
           },
           looks,
         )
-    alike_finds a b n alike left_alike covers_b (inr it) = inr (alike_open a b alike left_alike it)
+    alike_finds a other n alike left_alike covers_other (inr it) = inr (alike_open a other alike left_alike it)
 
     -- a touch that finds it there is right
-    pub finds_right : (before : Option Run) → GoesOn before segment start → AreOfRun before earlier → (b phys n : ℕ) → phys ≡ page.phys + (b - page.base)
-        → FindsAt start segment earlier event page b n → IsRightBehind before start segment (probe_at event b phys)
-    finds_right before goes_on of_run b phys n is (inl (allowed, at)) =
-        (parts_behind start segment earlier (probe_at event b phys) before goes_on of_run).1 (inl (inl (
-          n,
-          record { within = allowed.within; flushed = allowed.flushed; not_foreseen = allowed.not_foreseen },
-          ap Allowed is ∙ probed b page ∙ ap (allow_in_page b Supervisor Read) (sym at),
-        )))
-    finds_right before goes_on of_run b phys n is (inr (none, it)) =
-        (parts_behind start segment earlier (probe_at event b phys) before goes_on of_run).1 (inr (Some page, none, it, ap Allowed is ∙ probed b page))
+    pub finds_right : (other phys n : ℕ) → phys ≡ page.phys + (other - page.base)
+        → FindsAt b event page other n → IsRightBehind b.before b.start b.segment (probe_at event other phys)
+    finds_right other phys n is (inl (allowed, at)) = (parts_of b (probe_at event other phys)).1 (inl (inl (
+      n,
+      record { within = allowed.within; flushed = allowed.flushed; not_foreseen = allowed.not_foreseen },
+      ap Allowed is ∙ probed other page ∙ ap (allow_in_page other Supervisor Read) (sym at),
+    )))
+    finds_right other phys n is (inr (none, it)) = (parts_of b (probe_at event other phys)).1 (inr (Some page, none, it, ap Allowed is ∙ probed other page))
 
-module _ (start : Space) (segment : Recording) (own earlier : List PlacedChange) (are : AreChanges start segment own)
-    (numbered : (c : PlacedChange) → Contains own c → IsNumbered c) (left_numbered : (c : PlacedChange) → Contains earlier c → IsNumbered c)
-    (space : Space) (depth : Depth) (is_space : IsSpace depth space) (whole : space ≡ space_from start segment segment.log)
-    (places : ℕ) (many : places ≡ length segment.log) (listed : List PlacedChange) (seen : List Seen) (all : AreSeen own listed (pages space) places seen)
-    (event : ℕ) (fits : event < 2 ^ 32) where
-  -- ---- at a moment of the segment
+  -- an earlier frame that has the same changes as one in which the page leads there so is met
+  pub leads_alike : (release : Release) (page : Page) → IsRoomy page → (leads : LeadsSo b release page) → (frame : ℕ) → frame ≤ leads.frame
+      → release.phys ≤ page.phys + frame * 4096 → AreAlike own (page.base + frame * 4096) (page.base + leads.frame * 4096)
+      → AreAlike earlier (page.base + frame * 4096) (page.base + leads.frame * 4096) → IsMetAt b release page (frame * 4096)
+  leads_alike release page roomy leads frame low up alike left_alike =
+      let here = page.base + frame * 4096 in
+      let there = page.base + leads.frame * 4096 in
+      let same = leads.same in
+      let within = leads.within in
+      let covered : IsTrue (covers page here) = (covers_means page here).1 (omega arith, omega (arith, within, low)) in
+      let has = leads.has in
+      let own_covered : IsTrue (covers leads.own here) = same_covers page leads.own here same covered in
+      let found = alike_finds release.made leads.own there here leads.finds.0 (alike_back own here there alike) (alike_back earlier here there left_alike)
+      own_covered leads.finds.1 in
+      record {
+        has = (up, omega (arith, has.1, low));
+        right = finds_right release.made leads.own here (page.phys + frame * 4096) leads.finds.0
+            (let base = same.base in let phys = same.phys in omega (arith, base, phys)) found;
+      }
 
-  module _ (touch : Touch) (made : touch.made ≡ event) (answered : touch.answered ≡ event) (n : ℕ) (allowed : IsAllowedPrefix start segment touch n)
-      (page : Page) (at : page_after start segment touch.address n ≡ Some page) where
-    -- an update of the page's own before a place, where none of the address lies from the moment to that place
-    made_before : (end : ℕ) → NoneWithin start segment touch.address n end → (d : PlacedChange) → Contains own d → Covers touch.address d
-        → d.place < end → d.made ≤ event
-    made_before end none d has covered less = elim (cases_lt event d.made) [
-      | inl late ↦
-          let known = (are.each d has).0 in
-          let looks = known.differs touch.address covered in
-          let from = allowed.not_foreseen d.place looks (d.made, known.made, subst (λ (e : ℕ). e < d.made) (sym answered) late) in
-          absurd (none d.place from less looks)
-      | inr low ↦ low
-    ]
+  module _ (listed : List PlacedChange) (seen : List Seen) (all : AreSeen joined listed (pages joined.space.space) seen)
+      (release : Release) (aligned : release.phys % bytes_of release.size ≡ 0) (fits : release.made < 2 ^ 32) where
+    abbrev event : ℕ
+    event = release.made
 
-    taken_from : (end : ℕ) → n ≤ end → (d : PlacedChange) → Contains own d → Covers touch.address d → end ≤ d.place → event ≤ taken_at d
-    taken_from end low d has covered past = elim (cases_lt (taken_at d) event) [
-      | inl early ↦
-          let (ends, before) = (ended_before start segment touch.address event fits d (Some page) (are.each d has).0 covered).0 early in
-          let less = allowed.flushed d.place (subst (λ (o : Option Page). EndsLook start segment touch.address o d.place) (sym at) ends)
-          (subst (IsAnsweredBefore segment d.place) (sym made) before) in
-          absurd (omega (arith, less, low, past))
-      | inr fine ↦ fine
-    ]
+    -- ---- at a moment of the segment
 
-    before_change : FirstWithin start segment touch.address n (length segment.log) → FoundPage own seen event touch.address page n
-    before_change (p, low, high, looks, none) =
-        let (c, has, place, covered) = are.all p touch.address high looks in
-        let known = (are.each c has).0 in
-        let same : page_before c.change ≡ Some page =
-        sym (known.was touch.address covered) ∙ ap (page_after start segment touch.address) place
-        ∙ sym (same_within start segment touch.address n p low none) ∙ at in
-        let there = was_there c.change page same in
-        let mine : (d : PlacedChange) → Contains own d → IsOf (number_of c.change.page) d → Covers touch.address d =
-        λ d has_d of. own_covers c.change.page touch.address (numbered c has).aligned covered d (numbered d has_d) of in
-        record {
-          s = seen_before c;
-          has = all.before c has;
-          is = there.1;
-          covered = subst (λ (q : Page). IsTrue (covers q touch.address)) there.1 covered;
-          alive = record {
-            there = there.0;
-            from = λ d has_d of less. made_before p none d has_d (mine d has_d of) (omega (arith, less, place));
-            until = λ d has_d of past. taken_from p low d has_d (mine d has_d of) (omega (arith, past, place));
-          };
-          from = omega (arith, low, place);
-        }
+    module _ (touch : Touch) (made : touch.made ≡ event) (answered : touch.answered ≡ event) (n : ℕ) (allowed : IsAllowedPrefix b.start b.segment touch n)
+        (page : Page) (at : page_after b.start b.segment touch.address n ≡ Some page) where
+      -- an update of the page's own before a place, where none of the address lies from the moment to that place
+      made_before : (end : ℕ) → NoneWithin b.start b.segment touch.address n end → (d : PlacedChange) → Contains own d → Covers touch.address d
+          → d.place < end → d.made ≤ event
+      made_before end none d has covered less = elim (cases_lt event d.made) [
+        | inl late ↦
+            let known = (b.own.each d has).0 in
+            let looks = known.differs touch.address covered in
+            let from = allowed.not_foreseen d.place looks (d.made, known.made, subst (λ (e : ℕ). e < d.made) (sym answered) late) in
+            absurd (none d.place from less looks)
+        | inr low ↦ low
+      ]
 
-    after_all : NoneWithin start segment touch.address n (length segment.log) → FoundPage own seen event touch.address page n
-    after_all none =
-        let low = allowed.within in
-        let here : page_at space touch.address ≡ Some page =
-        sym (at_end start segment own are space depth is_space whole touch.address)
-        ∙ sym (same_within start segment touch.address n (length segment.log) low none) ∙ at in
-        let (holds, covered) = (page_at_means is_space touch.address page).0 here in
-        let aligned = (is_space.well_formed page holds).aligned in
-        record {
-          s = seen_now places page;
-          has = all.present page ((holds_listed is_space page).1 holds);
-          is = refl;
-          covered = covered;
-          alive = record {
-            there = refl;
-            from = λ d has_d of less.
-                made_before (length segment.log) none d has_d (own_covers page touch.address aligned covered d (numbered d has_d) of) (are.each d has_d).1;
-            until = λ d has_d of past. absurd (let l = (are.each d has_d).1 in omega (arith, past, l, many));
-          };
-          from = omega (arith, low, many);
-        }
+      taken_from : (end : ℕ) → n ≤ end → (d : PlacedChange) → Contains own d → Covers touch.address d → end ≤ d.place → event ≤ taken_at d
+      taken_from end low d has covered past = elim (cases_lt (taken_at d) event) [
+        | inl early ↦
+            let (ends, before) = (ended_before b.start b.segment touch.address event fits d (Some page) (b.own.each d has).0 covered).0 early in
+            let less = allowed.flushed d.place (subst (λ (o : Option Page). EndsLook b.start b.segment touch.address o d.place) (sym at) ends)
+            (subst (IsAnsweredBefore b.segment d.place) (sym made) before) in
+            absurd (omega (arith, less, low, past))
+        | inr fine ↦ fine
+      ]
 
-    found : FoundPage own seen event touch.address page n
-    found = elim (first_within start segment touch.address n (length segment.log) allowed.within) [
-      | inl none ↦ after_all none
-      | inr first ↦ before_change first
-    ]
+      before_change : FirstWithin b.start b.segment touch.address n (length b.segment.log) → FoundPage own seen event touch.address page n
+      before_change (p, low, high, looks, none) =
+          let (c, has, place, covered) = b.own.all p touch.address high looks in
+          let known = (b.own.each c has).0 in
+          let same : page_before c.change ≡ Some page = sym (known.was touch.address covered) ∙ ap (page_after b.start b.segment touch.address) place
+          ∙ sym (same_within b.start b.segment touch.address n p low none) ∙ at in
+          let there = was_there c.change page same in
+          let mine : (d : PlacedChange) → Contains own d → IsOf (number_of c.change.page) d → Covers touch.address d =
+          λ d has_d of. own_covers c.change.page touch.address (built.own.numbered c has).aligned covered d (built.own.numbered d has_d) of in
+          record {
+            s = seen_before c;
+            has = all.before c has;
+            is = there.1;
+            covered = subst (λ (q : Page). IsTrue (covers q touch.address)) there.1 covered;
+            alive = record {
+              there = there.0;
+              from = λ d has_d of less. made_before p none d has_d (mine d has_d of) (omega (arith, less, place));
+              until = λ d has_d of past. taken_from p low d has_d (mine d has_d of) (omega (arith, past, place));
+            };
+            from = omega (arith, low, place);
+          }
 
-  -- ---- behind the segments before
+      after_all : NoneWithin b.start b.segment touch.address n (length b.segment.log) → FoundPage own seen event touch.address page n
+      after_all none =
+          let low = allowed.within in
+          let here : page_at joined.space.space touch.address ≡ Some page = sym (at_end touch.address)
+          ∙ sym (same_within b.start b.segment touch.address n (length b.segment.log) low none) ∙ at in
+          let (holds, covered) = (page_at_means built.is_space touch.address page).0 here in
+          let aligned = (built.is_space.well_formed page holds).aligned in
+          record {
+            s = seen_now joined.places page;
+            has = all.present page ((holds_listed built.is_space page).1 holds);
+            is = refl;
+            covered = covered;
+            alive = record {
+              there = refl;
+              from = λ d has_d of less. made_before (length b.segment.log) none d has_d
+                  (own_covers page touch.address aligned covered d (built.own.numbered d has_d) of) (b.own.each d has_d).1;
+              until = λ d has_d of past. absurd (let l = (b.own.each d has_d).1 in omega (arith, past, l, b.places));
+            };
+            from = omega (arith, low, b.places);
+          }
 
-  module _ (touch : Touch) (made : touch.made ≡ event) (page : Page) (none : EndsNowhere start segment touch.address (Some page) touch.made)
-      (it : IsLeftAt earlier touch.address (Some page)) (lists : Contains listed it.change) where
-    left_found : FoundPage own seen event touch.address page 0
-    left_found =
-        let there = was_there it.change.change page it.looks in
-        let still : nat_lt (taken_at it.change) 4294967295 ≡ false = elim (cases_lt (taken_at it.change) 4294967295) [
-          | inl early ↦ absurd (let l = it.still_open it.change it.has it.covers_it early in omega (arith, l))
-          | inr fine ↦ grind (arith, nat_tests)
-        ] in
-        let is = left_numbered it.change it.has in record {
-          s = seen_left it.change;
-          has = all.left it.change lists;
-          is = there.1;
-          covered = subst (λ (q : Page). IsTrue (covers q touch.address)) there.1 it.covers_it;
-          alive = record {
-            there = ap (λ (b : Bool). b && not (nat_lt (taken_at it.change) 4294967295)) there.0 ∙ ap (λ (b : Bool). true && not b) still;
-            from = λ d has_d of less. absurd (omega (arith, less));
-            until = λ d has_d of past. elim (cases_lt (taken_at d) event) [
-              | inl early ↦
-                  let covered = own_covers it.change.change.page touch.address is.aligned it.covers_it d (numbered d has_d) of in
-                  let (ends, before) = (ended_before start segment touch.address event fits d (Some page) (are.each d has_d).0 covered).0 early in
-                  absurd (none d.place ends (subst (IsAnsweredBefore segment d.place) (sym made) before))
-              | inr fine ↦ fine
-            ];
-          };
-          from = omega arith;
-        }
+      found : FoundPage own seen event touch.address page n
+      found = elim (first_within b.start b.segment touch.address n (length b.segment.log) allowed.within) [
+        | inl none ↦ after_all none
+        | inr first ↦ before_change first
+      ]
 
-  -- ---- a release whose memory can be reached
+    -- ---- behind the segments before
 
-  module _ (before : Option Run) (goes_on : GoesOn before segment start) (of_run : AreOfRun before earlier) (release : Release)
-      (aligned : release.phys % bytes_of release.size ≡ 0) (now : release.made ≡ event) where
+    module _ (touch : Touch) (made : touch.made ≡ event) (page : Page) (none : EndsNowhere b.start b.segment touch.address (Some page) touch.made)
+        (it : IsLeftAt earlier touch.address (Some page)) (lists : Contains listed it.change) where
+      left_found : FoundPage own seen event touch.address page 0
+      left_found =
+          let there = was_there it.change.change page it.looks in
+          let still : nat_lt (taken_at it.change) 4294967295 ≡ false = elim (cases_lt (taken_at it.change) 4294967295) [
+            | inl early ↦ absurd (let l = it.still_open it.change it.has it.covers_it early in omega (arith, l))
+            | inr fine ↦ grind (arith, nat_tests)
+          ] in
+          let is = built.earlier.numbered it.change it.has in record {
+            s = seen_left it.change;
+            has = all.left it.change lists;
+            is = there.1;
+            covered = subst (λ (q : Page). IsTrue (covers q touch.address)) there.1 it.covers_it;
+            alive = record {
+              there = ap (λ (t : Bool). t && not (nat_lt (taken_at it.change) 4294967295)) there.0 ∙ ap (λ (t : Bool). true && not t) still;
+              from = λ d has_d of less. absurd (omega (arith, less));
+              until = λ d has_d of past. elim (cases_lt (taken_at d) event) [
+                | inl early ↦
+                    let covered = own_covers it.change.change.page touch.address is.aligned it.covers_it d (built.own.numbered d has_d) of in
+                    let (ends, before) = (ended_before b.start b.segment touch.address event fits d (Some page) (b.own.each d has_d).0 covered).0 early in
+                    absurd (none d.place ends (subst (IsAnsweredBefore b.segment d.place) (sym made) before))
+                | inr fine ↦ fine
+              ];
+            };
+            from = omega arith;
+          }
+
+    -- ---- a release whose memory can be reached
+
     -- the frame of the address
     leads_so : (a phys n : ℕ) (page : Page) (there : FoundPage own seen event a page n) → phys ≡ page.phys + (a - page.base) → HasPhys release phys
-        → FindsAt start segment earlier event page a n → ReachedPage start segment own earlier seen release a
+        → FindsAt b event page a n → ReachedPage b seen release a
     leads_so a phys n page there is shared finds =
         let roomy = subst IsRoomy there.is (all.roomy there.s there.has) in
         let within = (covers_means page a).0 there.covered in
@@ -355,12 +370,12 @@ module _ (start : Space) (segment : Recording) (own earlier : List PlacedChange)
         record {
           s = there.s;
           has = there.has;
-          alive = subst (IsAlive own there.s) (sym now) there.alive;
+          alive = there.alive;
           phys = phys;
           shared = shared;
           low = subst (λ (q : Page). q.phys ≤ phys) (sym there.is) (omega (arith, is));
           high = subst (λ (q : Page). phys < q.phys + bytes_of q.size) (sym there.is) (omega (arith, is, within.0, within.1));
-          leads = subst (λ (q : Page). LeadsBelow start segment earlier release a q there.s.place) (sym there.is) (
+          leads = subst (λ (q : Page). LeadsBelow b release a q there.s.place) (sym there.is) (
             record {
               frame = at.frame;
               within = at.within;
@@ -369,11 +384,9 @@ module _ (start : Space) (segment : Recording) (own earlier : List PlacedChange)
               same = record { base = refl; size = refl; phys = refl };
               finds = (
                 n,
-                subst (λ (e : ℕ). FindsAt start segment earlier e page (page.base + at.frame * 4096) n) (sym now)
-                    (alike_finds start segment own are space depth is_space whole earlier event page a (page.base + at.frame * 4096) n
-                    (frame_alike own numbered a (page.base + at.frame * 4096) at.same)
-                    (frame_alike earlier left_numbered a (page.base + at.frame * 4096) at.same)
-                    ((covers_means page (page.base + at.frame * 4096)).1 (omega arith, let less = at.within in omega (arith, less))) finds),
+                alike_finds event page a (page.base + at.frame * 4096) n (frame_alike own built.own.numbered a (page.base + at.frame * 4096) at.same)
+                    (frame_alike earlier built.earlier.numbered a (page.base + at.frame * 4096) at.same)
+                    ((covers_means page (page.base + at.frame * 4096)).1 (omega arith, let less = at.within in omega (arith, less))) finds,
               );
             },
             low,
@@ -381,73 +394,66 @@ module _ (start : Space) (segment : Recording) (own earlier : List PlacedChange)
           );
         }
 
-    module _ (can : IsReachable before start segment release) where
+    module _ (can : IsReachable b.before b.start b.segment release) where
       -- a page that the address of the touch was left to look as
       abbrev FoundLeft : Type 0
-      FoundLeft = (page : Page) × IsOpen start segment earlier event can.touch.address (Some page)
-          × (can.phys ≡ page.phys + (can.touch.address - page.base))
+      FoundLeft = (page : Page) × IsOpen b event can.touch.address (Some page) × (can.phys ≡ page.phys + (can.touch.address - page.base))
 
-      made : can.touch.made ≡ event
-      made = can.made ∙ now
-
-      answered : can.touch.answered ≡ event
-      answered = can.answered ∙ now
-
-      in_segment : (n : ℕ) → IsAllowedPrefix start segment can.touch n
-          → ((own_page : Page) × (page_after start segment can.touch.address n ≡ Some own_page)
-          × (can.phys ≡ own_page.phys + (can.touch.address - own_page.base))) → ReachedPage start segment own earlier seen release can.touch.address
+      in_segment : (n : ℕ) → IsAllowedPrefix b.start b.segment can.touch n
+          → ((own_page : Page) × (page_after b.start b.segment can.touch.address n ≡ Some own_page)
+          × (can.phys ≡ own_page.phys + (can.touch.address - own_page.base))) → ReachedPage b seen release can.touch.address
       in_segment n allowed (page, at, is) =
-          leads_so can.touch.address can.phys n page (found can.touch made answered n allowed page at) is can.within (inl (
+          leads_so can.touch.address can.phys n page (found can.touch can.made can.answered n allowed page at) is can.within (inl (
             record {
               within = allowed.within;
-              flushed = λ place ends early. allowed.flushed place ends (subst (IsAnsweredBefore segment place) (sym made) early);
-              not_foreseen = λ place changes late. allowed.not_foreseen place changes (subst (IsMadeAfter segment place) (sym answered) late);
+              flushed = λ place ends early. allowed.flushed place ends (subst (IsAnsweredBefore b.segment place) (sym can.made) early);
+              not_foreseen = λ place changes late. allowed.not_foreseen place changes (subst (IsMadeAfter b.segment place) (sym can.answered) late);
             },
             at,
           ))
 
-      left_over : (page : Option Page) → EndsNowhere start segment can.touch.address page can.touch.made → IsLeftAt earlier can.touch.address page
+      left_over : (page : Option Page) → EndsNowhere b.start b.segment can.touch.address page can.touch.made → IsLeftAt earlier can.touch.address page
           → ((own_page : Page) × (page ≡ Some own_page) × (can.phys ≡ own_page.phys + (can.touch.address - own_page.base))) → FoundLeft
       left_over page none it (found_page, same, is) =
-          let nowhere = subst (λ (o : Option Page). EndsNowhere start segment can.touch.address o can.touch.made) same none in
+          let nowhere = subst (λ (o : Option Page). EndsNowhere b.start b.segment can.touch.address o can.touch.made) same none in
           let at = subst (IsLeftAt earlier can.touch.address) same it in
-          (found_page, (subst (λ (e : ℕ). EndsNowhere start segment can.touch.address (Some found_page) e) made nowhere, at), is)
+          (found_page, (subst (EndsNowhere b.start b.segment can.touch.address (Some found_page)) can.made nowhere, at), is)
 
-      by : IsRightTouch start segment can.touch ⊎ ((page : Option Page) × EndsNowhere start segment can.touch.address page can.touch.made
+      by : IsRightTouch b.start b.segment can.touch ⊎ ((page : Option Page) × EndsNowhere b.start b.segment can.touch.address page can.touch.made
           × IsLeftAt earlier can.touch.address page × (can.touch.answer ≡ allow_in_page can.touch.address can.touch.mode can.touch.access page))
-          → ReachedPage start segment own earlier seen release can.touch.address ⊎ FoundLeft
+          → ReachedPage b seen release can.touch.address ⊎ FoundLeft
       by (inl (inl (n, allowed, told))) =
           inl (in_segment n allowed (found_page can.phys can.touch.address can.touch.mode can.touch.access
-          (page_after start segment can.touch.address n) (sym can.finds ∙ told)))
+          (page_after b.start b.segment can.touch.address n) (sym can.finds ∙ told)))
       by (inl (inr (fault, m, lags))) =
           absurd (let clash : Allowed can.phys ≡ Fault (fault_code false can.touch.mode can.touch.access) = sym can.finds ∙ fault in cc)
       by (inr (page, none, it, answered)) =
           inr (left_over page none it (found_page can.phys can.touch.address can.touch.mode can.touch.access page (sym can.finds ∙ answered)))
 
-      own_or_left : ReachedPage start segment own earlier seen release can.touch.address ⊎ FoundLeft
-      own_or_left = by ((parts_behind start segment earlier can.touch before goes_on of_run).0 can.right)
+      own_or_left : ReachedPage b seen release can.touch.address ⊎ FoundLeft
+      own_or_left = by ((parts_of b can.touch).0 can.right)
 
       -- it is found in a page that is seen, where those that earlier segments left are seen too
-      pub reached : ((c : PlacedChange) → Contains earlier c → Contains listed c) → ReachedPage start segment own earlier seen release can.touch.address
+      pub reached : ((c : PlacedChange) → Contains earlier c → Contains listed c) → ReachedPage b seen release can.touch.address
       reached lists = elim own_or_left [
         | inl own_page ↦ own_page
         | inr (page, (nowhere, it), is) ↦
             leads_so can.touch.address can.phys 0 page
-            (left_found can.touch made page (subst (λ (e : ℕ). EndsNowhere start segment can.touch.address (Some page) e) (sym made) nowhere) it
+            (left_found can.touch can.made page (subst (EndsNowhere b.start b.segment can.touch.address (Some page)) (sym can.made) nowhere) it
             (lists it.change it.has)) is can.within (inr (nowhere, it))
       ]
 
       -- or by a frame that was left to look so
-      pub reached_so : ReachedPage start segment own earlier seen release can.touch.address ⊎ ReachedOpen start segment earlier release
+      pub reached_so : ReachedPage b seen release can.touch.address ⊎ ReachedOpen b release
       reached_so = elim own_or_left [
         | inl own_page ↦ inl own_page
         | inr (page, (nowhere, it), is) ↦
             let there = was_there it.change.change page it.looks in
-            let is_of = left_numbered it.change it.has in
+            let is_of = built.earlier.numbered it.change it.has in
             let roomy : IsRoomy page = subst IsRoomy there.1 (record { base = is_of.aligned; frame = is_of.frame; ends = is_of.ends; low = is_of.low }) in
             let covered = subst (λ (q : Page). IsTrue (covers q can.touch.address)) there.1 it.covers_it in
             let at = frame_in release page can.touch.address can.phys aligned roomy covered is can.within in
-            let b = page.base + at.frame * 4096 in
+            let there_at = page.base + at.frame * 4096 in
             inr (
               page,
               at.frame,
@@ -455,17 +461,16 @@ module _ (start : Space) (segment : Recording) (own earlier : List PlacedChange)
               record {
                 within = at.within;
                 has = at.has;
-                open_so = subst (λ (e : ℕ). IsOpen start segment earlier e b (Some page)) (sym now)
-                    (alike_open start segment own are space depth is_space whole earlier event page can.touch.address b
-                    (frame_alike own numbered can.touch.address b at.same) (frame_alike earlier left_numbered can.touch.address b at.same) (nowhere, it));
+                open_so = alike_open event page can.touch.address there_at (frame_alike own built.own.numbered can.touch.address there_at at.same)
+                    (frame_alike earlier built.earlier.numbered can.touch.address there_at at.same) (nowhere, it);
               },
             )
       ]
 
 -- what leads there can be reached
-pub reachable : (before : Option Run) (start : Space) (segment : Recording) (release : Release) (page : Page) → LeadsThere before start segment release page
-    → IsReachable before start segment release
-reachable before start segment release page leads = record {
+pub reachable : {joined : Joined} (b : Behind joined) (release : Release) (page : Page) → LeadsThere b release page
+    → IsReachable b.before b.start b.segment release
+reachable b release page leads = record {
   touch = probe_at release.made (page.base + leads.frame * 4096) (page.phys + leads.frame * 4096);
   made = refl;
   answered = refl;
@@ -474,26 +479,3 @@ reachable before start segment release page leads = record {
   within = leads.met.has;
   right = leads.met.right;
 }
-
--- an earlier frame that has the same changes as one in which the page leads there so is met
-pub leads_alike : (before : Option Run) (start : Space) (segment : Recording) (own earlier : List PlacedChange) → AreChanges start segment own
-    → GoesOn before segment start → AreOfRun before earlier → (space : Space) (depth : Depth) → IsSpace depth space
-    → space ≡ space_from start segment segment.log → (release : Release) (page : Page) → IsRoomy page → (leads : LeadsSo start segment earlier release page)
-    → (frame : ℕ) → frame ≤ leads.frame → release.phys ≤ page.phys + frame * 4096
-    → AreAlike own (page.base + frame * 4096) (page.base + leads.frame * 4096)
-    → AreAlike earlier (page.base + frame * 4096) (page.base + leads.frame * 4096) → IsMetAt before start segment release page (frame * 4096)
-leads_alike before start segment own earlier are goes_on of_run space depth is_space whole release page roomy leads frame low up alike left_alike =
-    let a = page.base + frame * 4096 in
-    let b = page.base + leads.frame * 4096 in
-    let same = leads.same in
-    let within = leads.within in
-    let covered : IsTrue (covers page a) = (covers_means page a).1 (omega arith, omega (arith, within, low)) in
-    let has = leads.has in
-    let own_covered : IsTrue (covers leads.own a) = same_covers page leads.own a same covered in
-    let found = alike_finds start segment own are space depth is_space whole earlier release.made leads.own b a leads.finds.0
-    (alike_back own a b alike) (alike_back earlier a b left_alike) own_covered leads.finds.1 in
-    record {
-      has = (up, omega (arith, has.1, low));
-      right = finds_right start segment own are space depth is_space whole earlier release.made leads.own before goes_on of_run a (page.phys + frame * 4096)
-          leads.finds.0 (let base = same.base in let phys = same.phys in omega (arith, base, phys)) found;
-    }

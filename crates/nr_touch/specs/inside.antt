@@ -7,6 +7,7 @@ pub mod Changes
 pub mod Columns
 pub mod Earlier
 pub mod Indexed
+pub mod Joined
 pub mod Lefts
 pub mod Levels
 pub mod Listed

@@ -3,6 +3,7 @@
 pub(crate) mod beside;
 pub(crate) mod between;
 pub(crate) mod excuse;
+pub(crate) mod joined;
 pub(crate) mod looks;
 pub(crate) mod stale;
 pub(crate) mod tail;

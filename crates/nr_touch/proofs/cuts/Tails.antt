@@ -19,11 +19,14 @@ use Rattle.nr_touch.specs.inside.Changes.{ended_at, page_before, AreChanges}
 use Rattle.nr_touch.specs.inside.Columns.{Covers, IsNumbered, IsPast}
 use Rattle.nr_touch.specs.inside.Earlier.{AreOfRun, IsAnsweredSo, IsOfLeft}
 use Rattle.nr_touch.specs.inside.Indexed.{HasPages}
+use Rattle.nr_touch.specs.inside.Joined.{Behind}
 use Rattle.nr_touch.specs.inside.Lefts.{left_of, ArePlacedAs, KeepLooks}
+use Rattle.nr_touch.specs.inside.Levels.{left_in}
 use Rattle.nr_touch.specs.inside.Listed.{AreListed}
 use Rattle.nr_touch.specs.inside.Sights.{IsAnsweredBetween}
 use Rattle.nr_touch.specs.declared.changes.change.PlacedChange.{PlacedChange}
 use Rattle.nr_touch.specs.declared.releases.lingering.Indexes.{Indexes}
+use Rattle.nr_touch.specs.declared.touches.joined.Joined.{Joined}
 use Rattle.nr_touch.specs.declared.touches.tail.Left.{Left}
 use Rattle.nr_touch.specs.declared.touches.tail.Tail.{Tail}
 use Rattle.nr_touch.specs.Excuses.{IsExcusedBehind, IsExcusedBy}
@@ -160,7 +163,7 @@ of_run (Some run) tail placed sorted of_it are same = (
 
 module _ (start : Space) (segment : Recording) (earlier : List PlacedChange) (touch : Touch) where
   -- a right touch behind a run is right in its segment, or is answered by what was left
-  pub parts_behind : (before : Option Run) → GoesOn before segment start → AreOfRun before earlier
+  parts_behind : (before : Option Run) → GoesOn before segment start → AreOfRun before earlier
       → IsRightBehind before start segment touch ↔ (IsRightTouch start segment touch ⊎ IsOfLeft start segment earlier touch)
   parts_behind None goes_on none = (
     λ right. inl right,
@@ -199,7 +202,7 @@ module _ (start : Space) (segment : Recording) (earlier : List PlacedChange) (to
       (elim in_time [ inl own ↦ own | inr left ↦ absurd (none left) ], not_now, more.0, more.1)
   excused_alone Before none excuses.Lagging (lagging, late) = (lagging, (λ in_time. late (inl in_time)))
 
-  pub excused_behind : (before : Option Run) → GoesOn before segment start → AreOfRun before earlier → (excuse : Excuse)
+  excused_behind : (before : Option Run) → GoesOn before segment start → AreOfRun before earlier → (excuse : Excuse)
       → IsExcusedWith (IsOfLeft start segment earlier touch) start segment touch excuse → IsExcusedBehind before start segment touch excuse
   excused_behind None goes_on none excuse is =
       excused_alone (IsOfLeft start segment earlier touch) (λ left. let at = left.2 in none at.change at.has) excuse is
@@ -211,6 +214,16 @@ module _ (start : Space) (segment : Recording) (earlier : List PlacedChange) (to
       (excused_as (IsOfLeft begun segment earlier touch) _
       (λ (page, none, at, answered). (page, none, (left touch.address page).0 at, answered))
       (λ (page, none, it, answered). (page, none, (left touch.address page).1 it, answered)) begun excuse own)
+
+-- so of what a touch is compared with
+module _ {joined : Joined} (b : Behind joined) (touch : Touch) where
+  pub parts_of : IsRightBehind b.before b.start b.segment touch
+      ↔ (IsRightTouch b.start b.segment touch ⊎ IsOfLeft b.start b.segment (left_in joined.earlier.items) touch)
+  parts_of = parts_behind b.start b.segment (left_in joined.earlier.items) touch b.before b.goes_on b.earlier
+
+  pub excused_of : (excuse : Excuse) → IsExcusedWith (IsOfLeft b.start b.segment (left_in joined.earlier.items) touch) b.start b.segment touch excuse
+      → IsExcusedBehind b.before b.start b.segment touch excuse
+  excused_of = excused_behind b.start b.segment (left_in joined.earlier.items) touch b.before b.goes_on b.earlier
 
 -- ---- by the searches of a touch that finds a page, or none
 

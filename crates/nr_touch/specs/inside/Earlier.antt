@@ -6,12 +6,10 @@ use Rattle.vs_types.specs.declared.page.Page.{Page}
 use Rattle.nr_trace.specs.Recording.{Recording}
 use Rattle.nr_joined.specs.Run.{Run, IsOrderly}
 use Rattle.nr_touch.specs.Touches.{EndsLook, IsAnsweredBefore}
-use Rattle.nr_touch.specs.Tails.{GoesOn, Lingers}
-use Rattle.nr_touch.specs.inside.Changes.{ended_at, page_before, AreChanges}
+use Rattle.nr_touch.specs.Tails.{Lingers}
+use Rattle.nr_touch.specs.inside.Changes.{ended_at, page_before}
 use Rattle.nr_touch.specs.inside.Columns.{Covers}
-use Rattle.nr_touch.specs.inside.Levels.{left_in}
 use Rattle.nr_touch.specs.declared.changes.change.PlacedChange.{PlacedChange}
-use Rattle.nr_touch.specs.declared.changes.history.History.{History}
 use Rattle.nr_touch.specs.declared.touches.touch.Touch.{Touch}
 
 -- no update that ends that the address is found to look so was answered before the event
@@ -44,10 +42,3 @@ AreOfRun None changes = (c : PlacedChange) → Contains changes c → ⊥
 AreOfRun (Some run) changes =
     IsOrderly run.trace
     × ((address : ℕ) (page : Option Page) → IsLeftAt changes address page ↔ Lingers run.start run.trace address page)
-
--- the columns are those of a segment that goes on behind a run, and those of what the run left
-pub record IsFollowed (before : Option Run) (start : Space) (segment : Recording) (history : History) (left : List History) : Type 0 where
-  pub orderly : IsOrderly segment
-  pub goes_on : GoesOn before segment start
-  pub own : AreChanges start segment history.changes.items
-  pub earlier : AreOfRun before (left_in left)

@@ -8,6 +8,7 @@ use Rattle.vs_types.specs.declared.page.Page.{Page}
 use Rattle.nr_touch.specs.inside.Blocks.{IsBlockOf}
 use Rattle.nr_touch.specs.declared.changes.change.PlacedChange.{PlacedChange}
 use Rattle.nr_touch.specs.declared.releases.index.Index.{Index}
+use Rattle.nr_touch.specs.declared.touches.joined.Joined.{Joined}
 
 -- the order of the rows: by block, and then by key
 abbrev pub row_cmp : ℕ × ℕ → ℕ × ℕ → Ordering
@@ -29,14 +30,14 @@ HasPages index space = (page : Page) → Holds space page → IsIndexed index pa
 abbrev pub HasOwn : List PlacedChange → Page → Type 0
 HasOwn changes page = (c : PlacedChange) × Contains changes c × (c.change.page.base ≡ page.base)
 
--- each page after the changes at whose base none of them begins was there before them
-abbrev pub HasStayed : List PlacedChange → Space → Space → Type 0
-HasStayed changes before after = (page : Page) → Holds after page → (HasOwn changes page → ⊥) → Holds before page
+-- each page of the space at whose base no change of the segment begins was there before it
+abbrev pub HasStayed : Joined → Space → Type 0
+HasStayed joined before = (page : Page) → Holds joined.space.space page → (HasOwn joined.history.changes.items page → ⊥) → Holds before page
 
--- each page of a space at whose base no change begins has its rows in the index
-abbrev pub HaveQuiet : List PlacedChange → Space → Index → Type 0
-HaveQuiet changes space index = (page : Page) → Holds space page → (HasOwn changes page → ⊥) → IsIndexed index page
+-- each such page has its rows in the index
+abbrev pub HaveQuiet : Joined → Index → Type 0
+HaveQuiet joined index = (page : Page) → Holds joined.space.space page → (HasOwn joined.history.changes.items page → ⊥) → IsIndexed index page
 
--- each page of a space at whose base a change begins is listed
-abbrev pub HavePresent : List PlacedChange → Space → List Page → Type 0
-HavePresent changes space present = (page : Page) → Holds space page → HasOwn changes page → Contains present page
+-- each page of the space at whose base a change begins is listed
+abbrev pub HavePresent : Joined → List Page → Type 0
+HavePresent joined present = (page : Page) → Holds joined.space.space page → HasOwn joined.history.changes.items page → Contains present page

@@ -2,12 +2,11 @@
 use Rattle.std.specs.Prelude.{◌≡◌, ℕ, ◌+◌, ◌*◌, ◌<◌, ◌≤◌, ◌⊎◌, List, slice_get, slice_index, Some, Contains}
 use Rattle.std.specs.BTreeMap.{get}
 use Rattle.vs_types.specs.Page.{bytes_of}
-use Rattle.vs_types.specs.Space.{Space}
 use Rattle.vs_types.specs.declared.page.Page.{Page}
-use Rattle.nr_trace.specs.Recording.{Recording}
 use Rattle.nr_touch.specs.Releases.{HasPhys}
 use Rattle.nr_touch.specs.inside.Columns.{Covers}
 use Rattle.nr_touch.specs.inside.Indexed.{row_cmp}
+use Rattle.nr_touch.specs.inside.Joined.{Behind}
 use Rattle.nr_touch.specs.inside.Reached.{LeadsBy}
 use Rattle.nr_touch.specs.declared.changes.change.PlacedChange.{PlacedChange}
 use Rattle.nr_touch.specs.declared.releases.changed.Changed.{Changed}
@@ -15,6 +14,7 @@ use Rattle.nr_touch.specs.declared.releases.overs.Over.{Over}
 use Rattle.nr_touch.specs.declared.releases.overs.Overs.{Overs}
 use Rattle.nr_touch.specs.declared.releases.release.Release.{Release}
 use Rattle.nr_touch.specs.declared.releases.stays.Stay.{Stay}
+use Rattle.nr_touch.specs.declared.touches.joined.Joined.{Joined}
 
 -- the later release is of the same memory as the first one, and not made before it
 pub record IsAgain (release later : Release) : Type 0 where
@@ -49,17 +49,15 @@ IsSettled changes release page place = (frame : ℕ) (c : PlacedChange) → fram
     → Contains changes c → Covers (page.base + frame * 4096) c → c.place < place → c.made ≤ release.made
 
 -- from the release on the stay leads no release of its memory there
-abbrev pub IsOver : Space → Recording → List PlacedChange → Release → Stay → Type 0
-IsOver start segment earlier release stay =
-    (later : Release) → IsAgain release later → later.made ≤ stay.until → LeadsBy start segment earlier later stay.page stay.place → ⊥
+abbrev pub IsOver : {joined : Joined} → Behind joined → Release → Stay → Type 0
+IsOver b release stay = (later : Release) → IsAgain release later → later.made ≤ stay.until → LeadsBy b later stay.page stay.place → ⊥
 
 -- so of the rows of a block from an index up to another
-abbrev pub AreOver : Space → Recording → List PlacedChange → Changed → Release → ℕ → ℕ → ℕ → Type 0
-AreOver start segment earlier changed release block begin end = (k : ℕ) (stay : Stay) → begin ≤ k → k < end
+abbrev pub AreOver : {joined : Joined} → Behind joined → Changed → Release → ℕ → ℕ → ℕ → Type 0
+AreOver b changed release block begin end = (k : ℕ) (stay : Stay) → begin ≤ k → k < end
     → slice_index changed.lives.blocks.items k ≡ block → slice_get changed.stays.items (slice_index changed.lives.rows.items k) ≡ Some stay
-    → IsOver start segment earlier release stay
+    → IsOver b release stay
 
 -- so of all that was noted
-abbrev pub AreKnown : Space → Recording → List PlacedChange → Changed → Overs → Type 0
-AreKnown start segment earlier changed overs = (key : ℕ × ℕ) (over : Over) → get row_cmp overs.known key ≡ Some over
-    → AreOver start segment earlier changed over.release over.block 0 over.rows
+abbrev pub AreKnown : {joined : Joined} → Behind joined → Changed → Overs → Type 0
+AreKnown b changed overs = (key : ℕ × ℕ) (over : Over) → get row_cmp overs.known key ≡ Some over → AreOver b changed over.release over.block 0 over.rows

@@ -1,21 +1,21 @@
 -- The pages that a touch may find, and how a release is compared with them. No public clause cites this file.
 use Rattle.std.specs.Prelude.{◌≡◌, ℕ, ◌+◌, ◌*◌, ◌<◌, ◌≤◌, ◌&&◌, ◌⊎◌, min, nat_lt, not, true, List, None, Option, Some, Contains}
 use Rattle.vs_types.specs.Page.{bytes_of}
-use Rattle.vs_types.specs.Space.{Space}
 use Rattle.vs_types.specs.declared.access.Access.TheVariants.{Read}
 use Rattle.vs_types.specs.declared.access.Mode.TheVariants.{Supervisor}
 use Rattle.vs_types.specs.declared.answer.Answer.TheVariants.{Allowed}
 use Rattle.vs_types.specs.declared.page.Page.{Page}
-use Rattle.nr_trace.specs.Recording.{Recording}
-use Rattle.nr_joined.specs.Run.{Run}
 use Rattle.nr_touch.specs.Releases.{HasPhys, IsReachedFrom}
 use Rattle.nr_touch.specs.Touches.{page_after, IsAllowedPrefix, IsRightBehind}
 use Rattle.nr_touch.specs.inside.Earlier.{EndsNowhere, IsLeftAt}
 use Rattle.nr_touch.specs.inside.Changes.{number_of, taken_at}
 use Rattle.nr_touch.specs.inside.Columns.{IsOf}
+use Rattle.nr_touch.specs.inside.Joined.{Behind}
+use Rattle.nr_touch.specs.inside.Levels.{left_in}
 use Rattle.nr_touch.specs.declared.changes.change.PlacedChange.{PlacedChange}
 use Rattle.nr_touch.specs.declared.releases.release.Release.{Release}
 use Rattle.nr_touch.specs.declared.releases.seen.Seen.{Seen}
+use Rattle.nr_touch.specs.declared.touches.joined.Joined.{Joined}
 use Rattle.nr_touch.specs.declared.touches.touch.Touch.{Touch}
 pub use Rattle.nr_touch.specs.inside.Blocks.{IsRoomy, IsSamePlace}
 
@@ -32,79 +32,77 @@ probe_at event address phys = record {
 }
 
 -- the memory of a release has what lies so far behind the base of a page, and a touch that finds it there would be right
-pub record IsMetAt (before : Option Run) (start : Space) (segment : Recording) (release : Release) (page : Page) (offset : ℕ) : Type 0 where
+pub record IsMetAt {joined : Joined} (b : Behind joined) (release : Release) (page : Page) (offset : ℕ) : Type 0 where
   pub has : HasPhys release (page.phys + offset)
-  pub right : IsRightBehind before start segment (probe_at release.made (page.base + offset) (page.phys + offset))
+  pub right : IsRightBehind b.before b.start b.segment (probe_at release.made (page.base + offset) (page.phys + offset))
 
 -- some frame of the page is so
-pub record LeadsThere (before : Option Run) (start : Space) (segment : Recording) (release : Release) (page : Page) : Type 0 where
+pub record LeadsThere {joined : Joined} (b : Behind joined) (release : Release) (page : Page) : Type 0 where
   pub frame : ℕ
   pub within : frame * 4096 < bytes_of page.size
-  pub met : IsMetAt before start segment release page (frame * 4096)
+  pub met : IsMetAt b release page (frame * 4096)
 
 -- an address is left to look so, and nothing ended this by the event
-abbrev pub IsOpen : Space → Recording → List PlacedChange → ℕ → ℕ → Option Page → Type 0
-IsOpen start segment earlier event address page = EndsNowhere start segment address page event × IsLeftAt earlier address page
+abbrev pub IsOpen : {joined : Joined} → Behind joined → ℕ → ℕ → Option Page → Type 0
+IsOpen {joined} b event address page = EndsNowhere b.start b.segment address page event × IsLeftAt (left_in joined.earlier.items) address page
 
 -- so of a frame of a page that the memory of a release has, at the release
-pub record IsOpenThere (start : Space) (segment : Recording) (earlier : List PlacedChange) (release : Release) (page : Page) (frame : ℕ) : Type 0 where
+pub record IsOpenThere {joined : Joined} (b : Behind joined) (release : Release) (page : Page) (frame : ℕ) : Type 0 where
   pub within : frame * 4096 < bytes_of page.size
   pub has : HasPhys release (page.phys + frame * 4096)
-  pub open_so : IsOpen start segment earlier release.made (page.base + frame * 4096) (Some page)
+  pub open_so : IsOpen b release.made (page.base + frame * 4096) (Some page)
 
 -- a touch that is made and answered at an event may find just this page at an address: as after so many entries of the segment, or as the changes leave it
-abbrev pub FindsAt : Space → Recording → List PlacedChange → ℕ → Page → ℕ → ℕ → Type 0
-FindsAt start segment earlier event page address n =
-    (IsAllowedPrefix start segment (probe_at event address 0) n × (page_after start segment address n ≡ Some page))
-    ⊎ IsOpen start segment earlier event address (Some page)
+abbrev pub FindsAt : {joined : Joined} → Behind joined → ℕ → Page → ℕ → ℕ → Type 0
+FindsAt b event page address n = (IsAllowedPrefix b.start b.segment (probe_at event address 0) n × (page_after b.start b.segment address n ≡ Some page))
+    ⊎ IsOpen b event address (Some page)
 
 -- as after some number of entries
-abbrev pub FindsPage : Space → Recording → List PlacedChange → ℕ → Page → ℕ → Type 0
-FindsPage start segment earlier event page address = (n : ℕ) × FindsAt start segment earlier event page address n
+abbrev pub FindsPage : {joined : Joined} → Behind joined → ℕ → Page → ℕ → Type 0
+FindsPage b event page address = (n : ℕ) × FindsAt b event page address n
 
 -- the memory of a release has a frame of the page, and a touch may find this page there, or one of its place
-pub record LeadsSo (start : Space) (segment : Recording) (earlier : List PlacedChange) (release : Release) (page : Page) : Type 0 where
+pub record LeadsSo {joined : Joined} (b : Behind joined) (release : Release) (page : Page) : Type 0 where
   pub frame : ℕ
   pub within : frame * 4096 < bytes_of page.size
   pub has : HasPhys release (page.phys + frame * 4096)
   pub own : Page
   pub same : IsSamePlace page own
-  pub finds : FindsPage start segment earlier release.made own (page.base + frame * 4096)
+  pub finds : FindsPage b release.made own (page.base + frame * 4096)
 
 -- the page is so as after at most so many entries
-abbrev pub LeadsBy : Space → Recording → List PlacedChange → Release → Page → ℕ → Type 0
-LeadsBy start segment earlier release page places = (leads : LeadsSo start segment earlier release page) × (leads.finds.0 ≤ places)
+abbrev pub LeadsBy : {joined : Joined} → Behind joined → Release → Page → ℕ → Type 0
+LeadsBy b release page places = (leads : LeadsSo b release page) × (leads.finds.0 ≤ places)
 
 -- it is so at or below an address
-abbrev pub LeadsBelow : Space → Recording → List PlacedChange → Release → ℕ → Page → ℕ → Type 0
-LeadsBelow start segment earlier release address page places =
-    (leads : LeadsSo start segment earlier release page) × (page.base + leads.frame * 4096 ≤ address) × (leads.finds.0 ≤ places)
+abbrev pub LeadsBelow : {joined : Joined} → Behind joined → Release → ℕ → Page → ℕ → Type 0
+LeadsBelow b release address page places = (leads : LeadsSo b release page) × (page.base + leads.frame * 4096 ≤ address) × (leads.finds.0 ≤ places)
 
 -- some page of these is so
-abbrev pub SomeLeadsSo : Space → Recording → List PlacedChange → Release → List Seen → Type 0
-SomeLeadsSo start segment earlier release seen = (s : Seen) × Contains seen s × LeadsSo start segment earlier release s.page
+abbrev pub SomeLeadsSo : {joined : Joined} → Behind joined → Release → List Seen → Type 0
+SomeLeadsSo b release seen = (s : Seen) × Contains seen s × LeadsSo b release s.page
 
 -- the memory of a release is met in a frame of the page, and none before it leads there so
-pub record IsFirstFrame (before : Option Run) (start : Space) (segment : Recording) (earlier : List PlacedChange) (release : Release) (page : Page) (frame : ℕ)
+pub record IsFirstFrame {joined : Joined} (b : Behind joined) (release : Release) (page : Page) (frame : ℕ)
     : Type 0 where
-  pub met : IsMetAt before start segment release page (frame * 4096)
-  pub first : (leads : LeadsSo start segment earlier release page) → frame ≤ leads.frame
+  pub met : IsMetAt b release page (frame * 4096)
+  pub first : (leads : LeadsSo b release page) → frame ≤ leads.frame
 
 -- such a frame of the page, or none where it doesn't lead there so
-abbrev pub FindsFrame : Option Run → Space → Recording → List PlacedChange → Release → Page → Option ℕ → Type 0
-FindsFrame before start segment earlier release page None = LeadsSo start segment earlier release page → ⊥
-FindsFrame before start segment earlier release page (Some frame) = IsFirstFrame before start segment earlier release page frame
+abbrev pub FindsFrame : {joined : Joined} → Behind joined → Release → Page → Option ℕ → Type 0
+FindsFrame b release page None = LeadsSo b release page → ⊥
+FindsFrame b release page (Some frame) = IsFirstFrame b release page frame
 
 -- an address from which the memory of a release is reached, where no page of these leads there so at a lower one
-pub record IsLeastIn (before : Option Run) (start : Space) (segment : Recording) (earlier : List PlacedChange) (release : Release) (seen : List Seen)
+pub record IsLeastIn {joined : Joined} (b : Behind joined) (release : Release) (seen : List Seen)
     (address : ℕ) : Type 0 where
-  pub from : IsReachedFrom before start segment release address
-  pub least : (s : Seen) → Contains seen s → (leads : LeadsSo start segment earlier release s.page) → address ≤ s.page.base + leads.frame * 4096
+  pub from : IsReachedFrom b.before b.start b.segment release address
+  pub least : (s : Seen) → Contains seen s → (leads : LeadsSo b release s.page) → address ≤ s.page.base + leads.frame * 4096
 
 -- such an address, or none where no page of these leads there so
-abbrev pub FindsAddress : Option Run → Space → Recording → List PlacedChange → Release → List Seen → Option ℕ → Type 0
-FindsAddress before start segment earlier release seen None = SomeLeadsSo start segment earlier release seen → ⊥
-FindsAddress before start segment earlier release seen (Some address) = IsLeastIn before start segment earlier release seen address
+abbrev pub FindsAddress : {joined : Joined} → Behind joined → Release → List Seen → Option ℕ → Type 0
+FindsAddress b release seen None = SomeLeadsSo b release seen → ⊥
+FindsAddress b release seen (Some address) = IsLeastIn b release seen address
 
 -- an address, or another one if there is one and that is lower
 abbrev pub IsLower : Option ℕ → ℕ → ℕ → Type 0
@@ -122,9 +120,9 @@ abbrev pub seen_left : PlacedChange → Seen
 seen_left c = record { page = c.change.page; place = 0; there = c.change.was_mapped && not (nat_lt (taken_at c) 4294967295) }
 
 -- all of them, of the pages that are there after the log
-pub record AreSeen (own earlier : List PlacedChange) (after : List Page) (places : ℕ) (seen : List Seen) : Type 0 where
-  pub present : (page : Page) → Contains after page → Contains seen (seen_now places page)
-  pub before : (c : PlacedChange) → Contains own c → Contains seen (seen_before c)
+pub record AreSeen (joined : Joined) (earlier : List PlacedChange) (after : List Page) (seen : List Seen) : Type 0 where
+  pub present : (page : Page) → Contains after page → Contains seen (seen_now joined.places page)
+  pub before : (c : PlacedChange) → Contains joined.history.changes.items c → Contains seen (seen_before c)
   pub left : (c : PlacedChange) → Contains earlier c → Contains seen (seen_left c)
   pub roomy : (s : Seen) → Contains seen s → IsRoomy s.page
 

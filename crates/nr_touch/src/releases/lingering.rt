@@ -3,33 +3,28 @@
 ghost use Rattle.std.specs.Prelude.{◌≡◌, ℕ, ◌≤◌, ◌⊎◌, ◌++◌, false, length, slice_get, Contains, IfOk, IfSome, IsTrue, List, OnOk, Option, Some};
 ghost use Rattle.vs_types.specs.Space.{Space};
 ghost use Rattle.vs_types.specs.declared.page.Page.{Page as PageRow};
-ghost use Rattle.nr_trace.specs.Orders.{space_from};
-ghost use Rattle.nr_trace.specs.Recording.{IsMemory, Recording};
-ghost use Rattle.nr_joined.specs.Run.{Run};
+ghost use Rattle.nr_trace.specs.Recording.{IsMemory};
 ghost use Rattle.nr_touch.specs.Tails.{ends_look, HasNoEnd, IsLeft, IsSoundLeft};
 ghost use Rattle.nr_touch.specs.declared.releases.overs.Over.{Over as OverRow};
 ghost use Rattle.nr_touch.specs.declared.releases.overs.Overs.{Overs as OversRow};
 ghost use Rattle.nr_touch.specs.declared.touches.tail.Left.{Left as LeftRow};
 ghost use Rattle.nr_touch.specs.inside.Blocks.{IsBlockOf, IsRoomy};
 ghost use Rattle.nr_touch.specs.inside.Changes.{page_before};
-ghost use Rattle.nr_touch.specs.inside.Columns.{AreColumns};
-ghost use Rattle.nr_touch.specs.inside.Earlier.{IsFollowed};
 ghost use Rattle.nr_touch.specs.inside.Indexed.{HasPages, IsIndexedAs};
+ghost use Rattle.nr_touch.specs.inside.Joined.{Behind, IsBuilt};
 ghost use Rattle.nr_touch.specs.inside.Lefts.{KeepLooks};
-ghost use Rattle.nr_touch.specs.inside.Levels.{left_in, IsLadder};
 ghost use Rattle.nr_touch.specs.inside.Listed.{AreListed, AreWithin, HasRoom, IsListed};
 ghost use Rattle.nr_touch.specs.inside.Overs.{IsNoted};
 ghost use Rattle.nr_touch.specs.inside.Reached.{IsOpen, IsOpenThere, LeadsSo, LeadsThere};
 
-use crate::changes::history::History;
 use crate::releases::index::Index;
 use crate::releases::meeting::leads_there;
 use crate::releases::overs::Overs;
 use crate::releases::release::Release;
+use crate::touches::joined::Joined;
 use crate::touches::tail::{Left, ends_itself};
 use std::alloc::Global;
 use std::collections::BTreeSet;
-use vs_plain::PlainSpace;
 use vs_types::{Memory, Page};
 
 /// Pages that addresses may be left to look as: a list of them, and their numbers in it by the memory that they lead into.
@@ -164,63 +159,41 @@ pub(crate) fn indexes_after(
 // ---- releases beside them
 
 /// Whether an access that begins with the release could reach its memory through the page of this number.
-fn leads_in_row(
-    history: &History,
-    earlier: &[History],
-    space: &PlainSpace,
-    places: u32,
-    pages: &[Page],
-    release: &Release,
-    number: u64,
-) -> bool
-    requires own { AreColumns history.now }
-    requires earlier { IsLadder earlier.now }
+fn leads_in_row(joined: &Joined, pages: &[Page], release: &Release, number: u64) -> bool
+    requires built { IsBuilt joined.now }
     requires room { (page : PageRow) → Contains pages.now page → IsRoomy page }
     requires memory { IsMemory release.now.size release.now.phys }
-    ensures sound { (run : Option Run) (start : Space) (segment : Recording)
-        → IsFollowed run start segment history.now earlier.now
-        → space.now.space ≡ space_from start segment segment.log → places ≡ length segment.log
-        → IsTrue result → (page : PageRow) × LeadsThere run start segment release.now page }
-    ensures whole { (run : Option Run) (start : Space) (segment : Recording) (page : PageRow)
-        → IsFollowed run start segment history.now earlier.now
-        → space.now.space ≡ space_from start segment segment.log → places ≡ length segment.log
-        → slice_get pages.now number ≡ Some page
-        → LeadsSo start segment (left_in earlier.now) release.now page → IsTrue result }
+    ensures sound { (b : Behind joined.now) → IsTrue result
+        → (page : PageRow) × LeadsThere b release.now page }
+    ensures whole { (b : Behind joined.now) (page : PageRow)
+        → slice_get pages.now number ≡ Some page → LeadsSo b release.now page → IsTrue result }
 {
     let row = number as usize;
     let many = pages.len();
     if row >= many {
         return false;
     }
-    leads_there(history, earlier, space, places, release, pages[row])
+    leads_there(joined, release, pages[row])
 }
 
 /// Whether an access that begins with the release could reach its memory through a page that is listed in this block, from this number on;
 /// and whether it was compared with one.
 fn leads_in_rows(
-    history: &History,
-    earlier: &[History],
-    space: &PlainSpace,
-    places: u32,
+    joined: &Joined,
     lingering: &Lingering,
     release: &Release,
     block: u64,
     first: usize,
 ) -> (bool, bool)
-    requires own { AreColumns history.now }
-    requires earlier { IsLadder earlier.now }
+    requires built { IsBuilt joined.now }
     requires room { HasRoom lingering.now }
     requires memory { IsMemory release.now.size release.now.phys }
-    ensures sound { (run : Option Run) (start : Space) (segment : Recording)
-        → IsFollowed run start segment history.now earlier.now
-        → space.now.space ≡ space_from start segment segment.log → places ≡ length segment.log
-        → IsTrue result.0 → (page : PageRow) × LeadsThere run start segment release.now page }
-    ensures whole { (run : Option Run) (start : Space) (segment : Recording) (page : PageRow)
-        (number : ℕ) → IsFollowed run start segment history.now earlier.now
-        → space.now.space ≡ space_from start segment segment.log → places ≡ length segment.log
+    ensures sound { (b : Behind joined.now) → IsTrue result.0
+        → (page : PageRow) × LeadsThere b release.now page }
+    ensures whole { (b : Behind joined.now) (page : PageRow) (number : ℕ)
         → slice_get lingering.now.pages.items number ≡ Some page
         → IsIndexedAs lingering.now.index page number → IsBlockOf page block → first ≤ number
-        → LeadsSo start segment (left_in earlier.now) release.now page → IsTrue result.0 }
+        → LeadsSo b release.now page → IsTrue result.0 }
 {
     let mut compared = false;
     for row in lingering
@@ -229,15 +202,7 @@ fn leads_in_rows(
         .range((block, first as u64)..=(block, u64::MAX))
     {
         compared = true;
-        if leads_in_row(
-            history,
-            earlier,
-            space,
-            places,
-            &lingering.pages,
-            release,
-            row.1,
-        ) {
+        if leads_in_row(joined, &lingering.pages, release, row.1) {
             return (true, compared);
         }
     }
@@ -257,42 +222,28 @@ fn first_of(gone: &Overs, release: &Release, block: u64) -> usize
 
 /// Whether an access that begins with the release could reach its memory through a page that is listed in this block. Allocates memory for
 /// what it notes where it was compared in vain.
-pub(crate) fn leads_in_block(
-    history: &History,
-    earlier: &[History],
-    space: &PlainSpace,
-    places: u32,
+pub(crate) fn leads_left_in(
+    joined: &Joined,
     lingering: &Lingering,
     gone: &mut Overs,
     release: &Release,
     block: u64,
 ) -> Result<bool, Memory>
-    requires own { AreColumns history.now }
-    requires earlier { IsLadder earlier.now }
+    requires built { IsBuilt joined.now }
     requires room { HasRoom lingering.now }
     requires memory { IsMemory release.now.size release.now.phys }
-    ensures sound { (run : Option Run) (start : Space) (segment : Recording)
-        → IsFollowed run start segment history.now earlier.now
-        → space.now.space ≡ space_from start segment segment.log → places ≡ length segment.log
-        → IfOk result (λ leads. IsTrue leads
-        → (page : PageRow) × LeadsThere run start segment release.now page) }
-    ensures whole { (run : Option Run) (start : Space) (segment : Recording) (page : PageRow)
-        (frame : ℕ) → IsFollowed run start segment history.now earlier.now
-        → space.now.space ≡ space_from start segment segment.log → places ≡ length segment.log
-        → AreListed (IsOpen start segment (left_in earlier.now) release.now.made) lingering.now
-        gone.old → IsOpenThere start segment (left_in earlier.now) release.now page frame
-        → IsBlockOf page block → IfOk result (λ leads. IsTrue leads) }
-    ensures listed { (run : Option Run) (start : Space) (segment : Recording)
-        → IsFollowed run start segment history.now earlier.now
-        → space.now.space ≡ space_from start segment segment.log → places ≡ length segment.log
-        → AreListed (IsOpen start segment (left_in earlier.now) release.now.made) lingering.now
-        gone.old → OnOk result (AreListed (IsOpen start segment (left_in earlier.now)
-        release.now.made) lingering.now gone.new) }
+    ensures sound { (b : Behind joined.now) → IfOk result (λ leads. IsTrue leads
+        → (page : PageRow) × LeadsThere b release.now page) }
+    ensures whole { (b : Behind joined.now) (page : PageRow) (frame : ℕ)
+        → AreListed (IsOpen b release.now.made) lingering.now gone.old
+        → IsOpenThere b release.now page frame → IsBlockOf page block
+        → IfOk result (λ leads. IsTrue leads) }
+    ensures listed { (b : Behind joined.now)
+        → AreListed (IsOpen b release.now.made) lingering.now gone.old
+        → OnOk result (AreListed (IsOpen b release.now.made) lingering.now gone.new) }
 {
     let first = first_of(gone, release, block);
-    let (leads, compared) = leads_in_rows(
-        history, earlier, space, places, lingering, release, block, first,
-    );
+    let (leads, compared) = leads_in_rows(joined, lingering, release, block, first);
     if leads {
         return Ok(true);
     }

@@ -1,15 +1,11 @@
 //! A release beside one page: whether an access that begins with it could reach its memory there.
 
-ghost use Rattle.std.specs.Prelude.{◌≡◌, ℕ, ◌↔◌, ◌+◌, ◌*◌, ◌%◌, ◌<◌, ◌≤◌, ◌^◌, length, IfSome, IsTrue, Option};
+ghost use Rattle.std.specs.Prelude.{◌≡◌, ℕ, ◌↔◌, ◌+◌, ◌*◌, ◌%◌, ◌<◌, ◌≤◌, ◌^◌, IfSome, IsTrue, Option};
 ghost use Rattle.vs_types.specs.Page.{bytes_of};
-ghost use Rattle.vs_types.specs.Space.{Space};
-ghost use Rattle.nr_trace.specs.Orders.{space_from};
-ghost use Rattle.nr_trace.specs.Recording.{IsMemory, Recording};
-ghost use Rattle.nr_joined.specs.Run.{Run};
+ghost use Rattle.nr_trace.specs.Recording.{IsMemory};
 ghost use Rattle.nr_touch.specs.Releases.{HasPhys};
 ghost use Rattle.nr_touch.specs.inside.Alike.{AreAlike, AreAlikeTo};
-ghost use Rattle.nr_touch.specs.inside.Columns.{AreColumns};
-ghost use Rattle.nr_touch.specs.inside.Earlier.{IsFollowed};
+ghost use Rattle.nr_touch.specs.inside.Joined.{Behind, IsBuilt};
 ghost use Rattle.nr_touch.specs.inside.Reached.{probe_at, FindsFrame, IsMetAt, IsRoomy, LeadsSo, LeadsThere};
 ghost use Rattle.nr_touch.specs.inside.Levels.{left_in, IsLadder};
 ghost use Rattle.nr_touch.specs.inside.Overs.{IsSettled};
@@ -17,9 +13,8 @@ ghost use Rattle.nr_touch.specs.inside.Overs.{IsSettled};
 use crate::changes::history::History;
 use crate::releases::release::Release;
 use crate::touches::excuse::is_right_behind;
+use crate::touches::joined::Joined;
 use crate::touches::touch::Touch;
-use vs_plain::PlainSpace;
-use vs_plain::laws::pages_are_a_space;
 use vs_types::{Access, Answer, Mode, Page};
 
 /// The number of an event has 32 bits.
@@ -55,23 +50,11 @@ fn is_in(release: &Release, phys: u64) -> bool
 
 /// Whether what lies so far behind the base of the page has memory of the release, and an access that begins with the release could
 /// find it there.
-fn is_met(
-    history: &History,
-    earlier: &[History],
-    space: &PlainSpace,
-    places: u32,
-    release: &Release,
-    page: Page,
-    offset: u64,
-) -> bool
-    requires own { AreColumns history.now }
-    requires earlier { IsLadder earlier.now }
+fn is_met(joined: &Joined, release: &Release, page: Page, offset: u64) -> bool
+    requires built { IsBuilt joined.now }
     requires base { page.base + offset < 2 ^ 64 }
     requires frame { page.phys + offset < 2 ^ 64 }
-    ensures { (before : Option Run) (start : Space) (segment : Recording)
-        → IsFollowed before start segment history.now earlier.now
-        → space.now.space ≡ space_from start segment segment.log → places ≡ length segment.log
-        → IsTrue result ↔ IsMetAt before start segment release.now page offset }
+    ensures { (b : Behind joined.now) → IsTrue result ↔ IsMetAt b release.now page offset }
 {
     let address = page.base + offset;
     let phys = page.phys + offset;
@@ -79,7 +62,7 @@ fn is_met(
         return false;
     }
     let touch = probe(release.made, address, phys);
-    is_right_behind(history, earlier, space, places, &touch)
+    is_right_behind(joined, &touch)
 }
 
 /// The frame of the page below which none has memory of the release.
@@ -125,83 +108,68 @@ fn alike_in(levels: &[History], address: u64) -> u64
     last
 }
 
+/// An address from the first of a frame on, up to which each has the same changes of earlier segments as that.
+fn alike_left(joined: &Joined, address: u64) -> u64
+    requires built { IsBuilt joined.now }
+    requires frame { address % 4096 ≡ 0 }
+    requires in_range { address + 4096 ≤ 2 ^ 64 }
+    ensures { AreAlikeTo (left_in joined.now.earlier.items) address result }
+{
+    alike_in(&joined.earlier, address)
+}
+
 /// A frame behind this one of the page, up to which each has the same changes as this one. At most four searches by halving, and four in
 /// each level of what was left.
-fn next_frame(history: &History, earlier: &[History], page: Page, frame: u64) -> u64
-    requires own { AreColumns history.now }
-    requires earlier { IsLadder earlier.now }
+fn next_frame(joined: &Joined, page: Page, frame: u64) -> u64
+    requires built { IsBuilt joined.now }
     requires page { IsRoomy page }
     requires within { frame * 4096 < bytes_of page.size }
     ensures up { frame < result }
     ensures own { (next : ℕ) → frame ≤ next → next < result
-        → AreAlike history.now.changes.items (page.base + frame * 4096) (page.base + next * 4096) }
+        → AreAlike joined.now.history.changes.items (page.base + frame * 4096)
+        (page.base + next * 4096) }
     ensures earlier { (next : ℕ) → frame ≤ next → next < result
-        → AreAlike (left_in earlier.now) (page.base + frame * 4096) (page.base + next * 4096) }
+        → AreAlike (left_in joined.now.earlier.items) (page.base + frame * 4096)
+        (page.base + next * 4096) }
 {
     let address = page.base + frame * 4096;
-    let own = history.alike_until(address);
-    let left = alike_in(earlier, address);
+    let own = joined.history.alike_until(address);
+    let left = alike_left(joined, address);
     let last = own.min(left);
     (last - page.base) / 4096 + 1
 }
 
 /// The first frame of the page in which an access that begins with the release could reach its memory, or `None`. It is compared in a
 /// frame of each stretch between pages that changes are of, up to that frame.
-pub(crate) fn frame_there(
-    history: &History,
-    earlier: &[History],
-    space: &PlainSpace,
-    places: u32,
-    release: &Release,
-    page: Page,
-) -> Option<u64>
-    requires own { AreColumns history.now }
-    requires earlier { IsLadder earlier.now }
+pub(crate) fn frame_there(joined: &Joined, release: &Release, page: Page) -> Option<u64>
+    requires built { IsBuilt joined.now }
     requires page { IsRoomy page }
     requires memory { IsMemory release.now.size release.now.phys }
-    ensures finds { (before : Option Run) (start : Space) (segment : Recording)
-        → IsFollowed before start segment history.now earlier.now
-        → space.now.space ≡ space_from start segment segment.log → places ≡ length segment.log
-        → FindsFrame before start segment (left_in earlier.now) release.now page result }
+    ensures finds { (b : Behind joined.now) → FindsFrame b release.now page result }
     ensures within { IfSome result (λ frame. frame * 4096 < bytes_of page.size) }
 {
-    pages_are_a_space(space);
     event_fits(release.made);
     let mut frame = first_frame(release, page);
     let end = end_frame(release, page);
     while frame < end {
         let offset = frame * 4096;
-        if is_met(history, earlier, space, places, release, page, offset) {
+        if is_met(joined, release, page, offset) {
             return Some(frame);
         }
-        frame = next_frame(history, earlier, page, frame);
+        frame = next_frame(joined, page, frame);
     }
     None
 }
 
 /// Whether an access that begins with the release could reach its memory through the page.
-pub(crate) fn leads_there(
-    history: &History,
-    earlier: &[History],
-    space: &PlainSpace,
-    places: u32,
-    release: &Release,
-    page: Page,
-) -> bool
-    requires own { AreColumns history.now }
-    requires earlier { IsLadder earlier.now }
+pub(crate) fn leads_there(joined: &Joined, release: &Release, page: Page) -> bool
+    requires built { IsBuilt joined.now }
     requires page { IsRoomy page }
     requires memory { IsMemory release.now.size release.now.phys }
-    ensures sound { (before : Option Run) (start : Space) (segment : Recording)
-        → IsFollowed before start segment history.now earlier.now
-        → space.now.space ≡ space_from start segment segment.log → places ≡ length segment.log
-        → IsTrue result → LeadsThere before start segment release.now page }
-    ensures whole { (before : Option Run) (start : Space) (segment : Recording)
-        → IsFollowed before start segment history.now earlier.now
-        → space.now.space ≡ space_from start segment segment.log → places ≡ length segment.log
-        → LeadsSo start segment (left_in earlier.now) release.now page → IsTrue result }
+    ensures sound { (b : Behind joined.now) → IsTrue result → LeadsThere b release.now page }
+    ensures whole { (b : Behind joined.now) → LeadsSo b release.now page → IsTrue result }
 {
-    match frame_there(history, earlier, space, places, release, page) {
+    match frame_there(joined, release, page) {
         Some(_) => true,
         None => false,
     }
@@ -219,28 +187,21 @@ pub(crate) fn frame_address(page: Page, frame: u64) -> u64
 
 /// Whether each change before the place was made by the release, of the addresses at which the page has its memory. It is compared in a
 /// frame of each stretch between pages that changes are of.
-pub(crate) fn is_settled(
-    history: &History,
-    earlier: &[History],
-    release: &Release,
-    page: Page,
-    place: u32,
-) -> bool
-    requires own { AreColumns history.now }
-    requires earlier { IsLadder earlier.now }
+pub(crate) fn is_settled(joined: &Joined, release: &Release, page: Page, place: u32) -> bool
+    requires built { IsBuilt joined.now }
     requires page { IsRoomy page }
     requires memory { IsMemory release.now.size release.now.phys }
-    ensures { IsTrue result → IsSettled history.now.changes.items release.now page place }
+    ensures { IsTrue result → IsSettled joined.now.history.changes.items release.now page place }
 {
     let made = release.made;
     let mut next = first_frame(release, page);
     let end = end_frame(release, page);
     while next < end {
         let address = frame_address(page, next);
-        if history.last_allowed(address, made, place) < place {
+        if joined.history.last_allowed(address, made, place) < place {
             return false;
         }
-        next = next_frame(history, earlier, page, next);
+        next = next_frame(joined, page, next);
     }
     true
 }

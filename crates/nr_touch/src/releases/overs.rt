@@ -1,12 +1,11 @@
 //! What releases were compared with in vain: a page that is over for a memory stays over, so a later release of it isn't compared with that
 //! page again.
 
-ghost use Rattle.std.specs.Prelude.{◌≡◌, List, IfSome, IsTrue, OnOk};
-ghost use Rattle.vs_types.specs.Space.{Space};
-ghost use Rattle.nr_trace.specs.Recording.{Recording};
+ghost use Rattle.std.specs.Prelude.{IfSome, IsTrue, OnOk};
+ghost use Rattle.nr_touch.specs.inside.Joined.{Behind};
 ghost use Rattle.nr_touch.specs.inside.Overs.{AddsNote, AreKnown, AreOver, IsNoted, IsOfMemory, KnowsNothing};
-ghost use Rattle.nr_touch.specs.declared.changes.change.PlacedChange.{PlacedChange as PlacedRow};
 ghost use Rattle.nr_touch.specs.declared.releases.changed.Changed.{Changed as ChangedRow};
+ghost use Rattle.nr_touch.specs.declared.touches.joined.Joined.{Joined as JoinedRow};
 
 use crate::releases::release::Release;
 use std::alloc::Global;
@@ -74,9 +73,8 @@ impl Overs {
 
     /// How many of the first rows a release needs no comparison with, if they are of this block, and the releases come by event.
     pub(crate) fn rows(&self, release: &Release, block: u64) -> usize
-        ensures { (start : Space) (segment : Recording) (earlier : List PlacedRow)
-            (changed : ChangedRow) → AreKnown start segment earlier changed self.now
-            → AreOver start segment earlier changed release.now block 0 result }
+        ensures { (joined : JoinedRow) (b : Behind joined) (changed : ChangedRow)
+            → AreKnown b changed self.now → AreOver b changed release.now block 0 result }
     {
         let Some(over) = self.noted(release, block) else {
             return 0;

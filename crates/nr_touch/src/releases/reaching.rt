@@ -1,43 +1,44 @@
 //! The search for the first release of memory that can be reached.
 
-ghost use Rattle.std.specs.Prelude.{◌≡◌, ℕ, ◌↔◌, ◌<◌, length, Contains, IfOk, IfSome, IsTrue, List, None, OnOk, Option};
+ghost use Rattle.std.specs.Prelude.{◌≡◌, ℕ, ◌↔◌, ◌<◌, length, Contains, IfOk, IfSome, IsTrue, None, OnOk, Option};
 ghost use Rattle.vs_types.specs.Space.{Space, pages};
 ghost use Rattle.nr_trace.specs.Laws.{HasCleanLog};
-ghost use Rattle.nr_trace.specs.Orders.{space_from};
-ghost use Rattle.nr_trace.specs.Recording.{IsMemory, Recording};
+ghost use Rattle.nr_trace.specs.Recording.{IsMemory};
 ghost use Rattle.nr_joined.specs.Run.{Run};
+ghost use Rattle.vs_types.specs.declared.page.Page.{Page as PageRow};
 ghost use Rattle.nr_touch.specs.Releases.{AreMemory, FindsReachable, FindsReached, IsWrongRelease};
 ghost use Rattle.nr_touch.specs.Tails.{GoesOn, AreSound, IsLeft, IsTailOf};
-ghost use Rattle.nr_touch.specs.declared.changes.change.PlacedChange.{PlacedChange as PlacedRow};
 ghost use Rattle.nr_touch.specs.declared.releases.lingering.Lingering.{Lingering as LingeringRow};
 ghost use Rattle.nr_touch.specs.declared.releases.overs.Overs.{Overs as OversRow};
 ghost use Rattle.nr_touch.specs.declared.releases.seen.Seen.{Seen as SeenRow};
-ghost use Rattle.nr_touch.specs.inside.Columns.{AreColumns};
-ghost use Rattle.nr_touch.specs.inside.Earlier.{IsFollowed};
+ghost use Rattle.nr_touch.specs.declared.touches.joined.Joined.{Joined as JoinedRow};
+ghost use Rattle.nr_touch.specs.inside.Blocks.{IsBlockOf};
 ghost use Rattle.nr_touch.specs.inside.Indexed.{HasPages, HasStayed, HavePresent, HaveQuiet};
+ghost use Rattle.nr_touch.specs.inside.Joined.{Behind, IsBuilt};
 ghost use Rattle.nr_touch.specs.inside.Listed.{AreListed, HasRoom};
-ghost use Rattle.nr_touch.specs.inside.Met.{IsMetBy};
+ghost use Rattle.nr_touch.specs.inside.Met.{AreRows, IsMetBy, LeadsFrom};
 ghost use Rattle.nr_touch.specs.inside.Overs.{AreKnown};
-ghost use Rattle.nr_touch.specs.inside.Reached.{AreSeen, FindsAddress, IsLower, IsOpen, IsRoomy};
-ghost use Rattle.nr_touch.specs.inside.Levels.{left_in, AreLevels, IsLadder};
+ghost use Rattle.nr_touch.specs.inside.Reached.{AreSeen, FindsAddress, IsLower, IsOpen, IsRoomy, LeadsThere};
+ghost use Rattle.nr_touch.specs.inside.Levels.{left_in, AreLevels};
 
-use crate::changes::change::PlacedChange;
 use crate::changes::history::History;
 use crate::changes::replay::replay;
-use crate::releases::changed::{Changed, leads_by_changes};
+use crate::releases::block::{around, whole};
+use crate::releases::changed::{Changed, leads_in_block};
 use crate::releases::index::{Index, changed_now};
-use crate::releases::lingering::{Indexes, Lingering, with_listed};
+use crate::releases::lingering::{Indexes, Lingering, leads_left_in, with_listed};
 use crate::releases::meeting::{event_fits, frame_address, frame_there};
 use crate::releases::overs::Overs;
-use crate::releases::quiet::leads_by_index;
+use crate::releases::quiet::leads_in_pages;
 use crate::releases::release::Release;
 use crate::releases::seen::{Seen, seen_of};
+use crate::touches::joined::Joined;
 use crate::touches::tail::{Left, Tail, one_level};
 use nr_trace::Trace;
 use std::alloc::Global;
 use vs_plain::PlainSpace;
 use vs_plain::laws::pages_are_a_space;
-use vs_types::{Memory, Page};
+use vs_types::{Memory, Page, Size};
 
 /// The pages that a touch of a segment may find: those that no change of the segment is of, those that its changes are of, and those that
 /// addresses were left to look as before it.
@@ -48,81 +49,129 @@ pub(crate) struct Reach {
     lingering: Lingering,
 }
 
-/// Whether the release is wrong: it is answered otherwise than by `Done`, or an access that begins with it could reach its memory. Allocates
-/// memory for what it notes.
-fn is_wrong(
-    history: &History,
-    earlier: &[History],
-    space: &PlainSpace,
-    places: u32,
+/// Whether an access that begins with the release could reach its memory through a page that leads into this block. Allocates memory for what
+/// it notes where it was compared in vain.
+fn leads_in(
+    joined: &Joined,
+    reach: &Reach,
+    overs: &mut Overs,
+    gone: &mut Overs,
+    release: &Release,
+    block: u64,
+) -> Result<bool, Memory>
+    requires built { IsBuilt joined.now }
+    requires rows { AreRows reach.now.changed }
+    requires room { HasRoom reach.now.lingering }
+    requires memory { IsMemory release.now.size release.now.phys }
+    ensures sound { (b : Behind joined.now) → IfOk result (λ leads. IsTrue leads
+        → (page : PageRow) × LeadsThere b release.now page) }
+    ensures whole { (b : Behind joined.now) (page : PageRow)
+        → AreKnown b reach.now.changed overs.old
+        → AreListed (IsOpen b release.now.made) reach.now.lingering gone.old
+        → LeadsFrom b reach.now.quiet reach.now.changed release.now page → IsBlockOf page block
+        → IfOk result (λ leads. IsTrue leads) }
+    ensures known { (b : Behind joined.now) → AreKnown b reach.now.changed overs.old
+        → OnOk result (AreKnown b reach.now.changed overs.new) }
+    ensures listed { (b : Behind joined.now)
+        → AreListed (IsOpen b release.now.made) reach.now.lingering gone.old
+        → OnOk result (AreListed (IsOpen b release.now.made) reach.now.lingering gone.new) }
+{
+    if leads_in_pages(joined, &reach.quiet, release, block) {
+        return Ok(true);
+    }
+    let by_left = leads_left_in(joined, &reach.lingering, gone, release, block)?;
+    if by_left {
+        return Ok(true);
+    }
+    let by_changes = leads_in_block(joined, &reach.changed, overs, release, block)?;
+    Ok(by_changes)
+}
+
+/// Whether an access that begins with the release could reach its memory: four searches for the pages of each kind that may lead there, and
+/// the pages that are found, up to the first that does. Allocates memory for what it notes.
+fn leads(
+    joined: &Joined,
     reach: &Reach,
     overs: &mut Overs,
     gone: &mut Overs,
     release: &Release,
 ) -> Result<bool, Memory>
-    requires own { AreColumns history.now }
-    requires earlier { IsLadder earlier.now }
-    requires met { IsMetBy history.now.changes.items space.now.space places reach.now.changed }
+    requires built { IsBuilt joined.now }
+    requires rows { AreRows reach.now.changed }
     requires room { HasRoom reach.now.lingering }
     requires memory { IsMemory release.now.size release.now.phys }
-    ensures wrong { (before : Option Run) (start : Space) (segment : Recording)
-        → IsFollowed before start segment history.now earlier.now
-        → space.now.space ≡ space_from start segment segment.log → places ≡ length segment.log
-        → HaveQuiet history.now.changes.items space.now.space reach.now.quiet
-        → AreKnown start segment (left_in earlier.now) reach.now.changed overs.old
-        → AreListed (IsOpen start segment (left_in earlier.now) release.now.made)
-        reach.now.lingering gone.old
-        → IfOk result (λ wrong. IsTrue wrong ↔ IsWrongRelease before start segment release.now) }
-    ensures known { (before : Option Run) (start : Space) (segment : Recording)
-        → IsFollowed before start segment history.now earlier.now
-        → space.now.space ≡ space_from start segment segment.log → places ≡ length segment.log
-        → AreKnown start segment (left_in earlier.now) reach.now.changed overs.old
-        → OnOk result (AreKnown start segment (left_in earlier.now) reach.now.changed overs.new) }
-    ensures listed { (before : Option Run) (start : Space) (segment : Recording)
-        → IsFollowed before start segment history.now earlier.now
-        → space.now.space ≡ space_from start segment segment.log → places ≡ length segment.log
-        → AreListed (IsOpen start segment (left_in earlier.now) release.now.made)
-        reach.now.lingering gone.old
-        → OnOk result (AreListed (IsOpen start segment (left_in earlier.now) release.now.made)
-        reach.now.lingering gone.new) }
+    ensures sound { (b : Behind joined.now) → IfOk result (λ leads. IsTrue leads
+        → (page : PageRow) × LeadsThere b release.now page) }
+    ensures whole { (b : Behind joined.now) (page : PageRow)
+        → AreKnown b reach.now.changed overs.old
+        → AreListed (IsOpen b release.now.made) reach.now.lingering gone.old
+        → LeadsFrom b reach.now.quiet reach.now.changed release.now page → IsRoomy page
+        → IfOk result (λ leads. IsTrue leads) }
+    ensures known { (b : Behind joined.now) → AreKnown b reach.now.changed overs.old
+        → OnOk result (AreKnown b reach.now.changed overs.new) }
+    ensures listed { (b : Behind joined.now)
+        → AreListed (IsOpen b release.now.made) reach.now.lingering gone.old
+        → OnOk result (AreListed (IsOpen b release.now.made) reach.now.lingering gone.new) }
+{
+    let phys = release.phys;
+    let own = around(phys, release.size);
+    let by_own = leads_in(joined, reach, overs, gone, release, own)?;
+    if by_own {
+        return Ok(true);
+    }
+    let small = whole(phys, Size::K4);
+    let by_small = leads_in(joined, reach, overs, gone, release, small)?;
+    if by_small {
+        return Ok(true);
+    }
+    let large = whole(phys, Size::M2);
+    let by_large = leads_in(joined, reach, overs, gone, release, large)?;
+    if by_large {
+        return Ok(true);
+    }
+    let huge = whole(phys, Size::G1);
+    let by_huge = leads_in(joined, reach, overs, gone, release, huge)?;
+    Ok(by_huge)
+}
+
+/// Whether the release is wrong: it is answered otherwise than by `Done`, or an access that begins with it could reach its memory. Allocates
+/// memory for what it notes.
+fn is_wrong(
+    joined: &Joined,
+    reach: &Reach,
+    overs: &mut Overs,
+    gone: &mut Overs,
+    release: &Release,
+) -> Result<bool, Memory>
+    requires built { IsBuilt joined.now }
+    requires met { IsMetBy joined.now reach.now.changed }
+    requires room { HasRoom reach.now.lingering }
+    requires memory { IsMemory release.now.size release.now.phys }
+    ensures wrong { (b : Behind joined.now)
+        → HaveQuiet joined.now reach.now.quiet
+        → AreKnown b reach.now.changed overs.old
+        → AreListed (IsOpen b release.now.made) reach.now.lingering gone.old
+        → IfOk result (λ wrong. IsTrue wrong ↔ IsWrongRelease b.before b.start b.segment
+        release.now) }
+    ensures known { (b : Behind joined.now) → AreKnown b reach.now.changed overs.old
+        → OnOk result (AreKnown b reach.now.changed overs.new) }
+    ensures listed { (b : Behind joined.now)
+        → AreListed (IsOpen b release.now.made) reach.now.lingering gone.old
+        → OnOk result (AreListed (IsOpen b release.now.made) reach.now.lingering gone.new) }
 {
     if !release.is_done {
         return Ok(true);
     }
-    pages_are_a_space(space);
     event_fits(release.made);
-    let by_index = leads_by_index(
-        history,
-        earlier,
-        space,
-        places,
-        &reach.quiet,
-        &reach.lingering,
-        gone,
-        release,
-    )?;
-    if by_index {
-        return Ok(true);
-    }
-    let by_changes = leads_by_changes(
-        history,
-        earlier,
-        space,
-        places,
-        &reach.changed,
-        overs,
-        release,
-    )?;
-    Ok(by_changes)
+    let found = leads(joined, reach, overs, gone, release)?;
+    Ok(found)
 }
 
 /// What is gone at a release: what was gone at the last one, at this event, where that doesn't come later; or else nothing.
 fn gone_at(alloc: Global, gone: Overs, last: u32, release: &Release) -> Overs
-    ensures { (start : Space) (segment : Recording) (earlier : List PlacedRow)
-        (lingering : LingeringRow) (first : OversRow)
-        → AreListed (IsOpen start segment earlier 0) lingering first
-        → AreListed (IsOpen start segment earlier last) lingering gone
-        → AreListed (IsOpen start segment earlier release.now.made) lingering result }
+    ensures { (joined : JoinedRow) (b : Behind joined) (lingering : LingeringRow) (first : OversRow)
+        → AreListed (IsOpen b 0) lingering first → AreListed (IsOpen b last) lingering gone
+        → AreListed (IsOpen b release.now.made) lingering result }
 {
     if release.made < last {
         return Overs::none(alloc);
@@ -134,31 +183,22 @@ fn gone_at(alloc: Global, gone: Overs, last: u32, release: &Release) -> Overs
 /// vain.
 fn first_wrong(
     alloc: Global,
-    history: &History,
-    earlier: &[History],
-    space: &PlainSpace,
-    places: u32,
+    joined: &Joined,
     reach: &Reach,
     gone: Overs,
     releases: &[Release],
 ) -> Result<(Option<usize>, Overs), Memory>
-    requires own { AreColumns history.now }
-    requires earlier { IsLadder earlier.now }
-    requires met { IsMetBy history.now.changes.items space.now.space places reach.now.changed }
+    requires built { IsBuilt joined.now }
+    requires met { IsMetBy joined.now reach.now.changed }
     requires room { HasRoom reach.now.lingering }
     requires memory { AreMemory releases.now }
-    ensures finds { (before : Option Run) (start : Space) (segment : Recording)
-        → IsFollowed before start segment history.now earlier.now
-        → space.now.space ≡ space_from start segment segment.log → places ≡ length segment.log
-        → HaveQuiet history.now.changes.items space.now.space reach.now.quiet
-        → AreListed (IsOpen start segment (left_in earlier.now) 0) reach.now.lingering gone
-        → IfOk result (λ done. FindsReachable before start segment releases.now done.0) }
-    ensures listed { (before : Option Run) (start : Space) (segment : Recording)
-        → IsFollowed before start segment history.now earlier.now
-        → space.now.space ≡ space_from start segment segment.log → places ≡ length segment.log
-        → AreListed (IsOpen start segment (left_in earlier.now) 0) reach.now.lingering gone
+    ensures finds { (b : Behind joined.now)
+        → HaveQuiet joined.now reach.now.quiet
+        → AreListed (IsOpen b 0) reach.now.lingering gone
+        → IfOk result (λ done. FindsReachable b.before b.start b.segment releases.now done.0) }
+    ensures listed { (b : Behind joined.now) → AreListed (IsOpen b 0) reach.now.lingering gone
         → IfOk result (λ done. (event : ℕ)
-        × AreListed (IsOpen start segment (left_in earlier.now) event) reach.now.lingering done.1) }
+        × AreListed (IsOpen b event) reach.now.lingering done.1) }
     ensures within { IfOk result
         (λ done. IfSome done.0 (λ index. index < length releases.now)) }
 {
@@ -168,9 +208,7 @@ fn first_wrong(
     for (index, release) in releases.iter().enumerate() {
         gone = gone_at(alloc, gone, last, release);
         last = release.made;
-        let wrong = is_wrong(
-            history, earlier, space, places, reach, &mut overs, &mut gone, release,
-        )?;
+        let wrong = is_wrong(joined, reach, &mut overs, &mut gone, release)?;
         if wrong {
             return Ok((Some(index), gone));
         }
@@ -182,19 +220,20 @@ fn first_wrong(
 /// each page where it builds them.
 fn built(
     alloc: Global,
+    joined: &Joined,
     index: Option<Indexes>,
     left: &[Left],
-    space: &PlainSpace,
 ) -> Result<Indexes, Memory>
     requires { AreSound left.now }
     ensures kept { IfSome index (λ index. IfOk result (λ built. built ≡ index)) }
-    ensures new { index ≡ None → IfOk result (λ built. HasPages built.pages space.now.space
+    ensures new { index ≡ None
+        → IfOk result (λ built. HasPages built.pages joined.now.space.space
         × AreListed (IsLeft left.now) built.lingering built.gone × HasRoom built.lingering) }
 {
     match index {
         Some(index) => Ok(index),
         None => {
-            let pages = Index::of(alloc, space)?;
+            let pages = Index::of(alloc, &joined.space)?;
             let indexes = with_listed(alloc, pages, left)?;
             Ok(indexes)
         }
@@ -205,31 +244,30 @@ fn built(
 /// the changes of the segment are of are taken away. Allocates what `built` does.
 fn quiet_of(
     alloc: Global,
+    joined: &Joined,
     index: Option<Indexes>,
     left: &[Left],
-    changes: &[PlacedChange],
-    space: &PlainSpace,
 ) -> Result<Indexes, Memory>
     requires { AreSound left.now }
     ensures quiet { (start : Space) → IfSome index (λ index. HasPages index.pages start)
-        → HasStayed changes.now start space.now.space
-        → IfOk result (λ index. HaveQuiet changes.now space.now.space index.pages) }
+        → HasStayed joined.now start
+        → IfOk result (λ index. HaveQuiet joined.now index.pages) }
     ensures listed { IfSome index
         (λ index. AreListed (IsLeft left.now) index.lingering index.gone)
         → IfOk result (λ index. AreListed (IsLeft left.now) index.lingering index.gone) }
     ensures room { IfSome index (λ index. HasRoom index.lingering)
         → IfOk result (λ index. HasRoom index.lingering) }
 {
-    let mut quiet = built(alloc, index, left, space)?;
-    quiet.pages.forget_all(changes);
+    let mut quiet = built(alloc, joined, index, left)?;
+    quiet.pages.forget_all(&joined.history.changes);
     Ok(quiet)
 }
 
 /// The index of the pages after a segment: that of the pages that no change is of, with those that changes are of. Allocates memory for
 /// their rows.
 fn noted(quiet: Index, present: &[Page]) -> Result<Index, Memory>
-    ensures { (changes : List PlacedRow) (space : Space) → HaveQuiet changes space quiet
-        → HavePresent changes space present.now → IfOk result (λ index. HasPages index space) }
+    ensures { (joined : JoinedRow) → HaveQuiet joined quiet → HavePresent joined present.now
+        → IfOk result (λ index. HasPages index joined.space.space) }
 {
     let mut index = quiet;
     index.note_all(present)?;
@@ -239,15 +277,15 @@ fn noted(quiet: Index, present: &[Page]) -> Result<Index, Memory>
 /// The indexes before a segment, if there are any, with the pages after it.
 fn index_after(
     alloc: Global,
+    joined: &Joined,
     index: Option<Indexes>,
     left: &[Left],
-    changes: &[PlacedChange],
-    space: &PlainSpace,
 ) -> Result<Option<Indexes>, Memory>
     requires { AreSound left.now }
     ensures pages { (start : Space) → IfSome index (λ index. HasPages index.pages start)
-        → HasStayed changes.now start space.now.space
-        → IfOk result (λ after. IfSome after (λ index. HasPages index.pages space.now.space)) }
+        → HasStayed joined.now start
+        → IfOk result (λ after. IfSome after
+        (λ index. HasPages index.pages joined.now.space.space)) }
     ensures listed { IfSome index
         (λ index. AreListed (IsLeft left.now) index.lingering index.gone) → IfOk result (λ after.
         IfSome after (λ index. AreListed (IsLeft left.now) index.lingering index.gone)) }
@@ -257,8 +295,8 @@ fn index_after(
     if index.is_none() {
         return Ok(None);
     }
-    let present = changed_now(alloc, changes, space)?;
-    let quiet = quiet_of(alloc, index, left, changes, space)?;
+    let present = changed_now(alloc, &joined.history.changes, &joined.space)?;
+    let quiet = quiet_of(alloc, joined, index, left)?;
     let Indexes {
         pages,
         lingering,
@@ -280,64 +318,51 @@ fn index_after(
 /// 344 bytes for each change of the segment, and for each page that it changed; and at most eight rows of 48 bytes for each release.
 pub(crate) fn first_reachable(
     alloc: Global,
-    history: &History,
-    earlier: &[History],
+    joined: &Joined,
     left: &[Left],
-    space: &PlainSpace,
-    places: u32,
     index: Option<Indexes>,
     releases: &[Release],
 ) -> Result<(Option<usize>, Option<Indexes>), Memory>
-    requires own { AreColumns history.now }
-    requires earlier { IsLadder earlier.now }
-    requires levels { AreLevels left.now earlier.now }
+    requires built { IsBuilt joined.now }
+    requires levels { AreLevels left.now joined.now.earlier.items }
     requires sound { AreSound left.now }
     requires room { IfSome index (λ index. HasRoom index.lingering) }
     requires memory { AreMemory releases.now }
-    ensures finds { (before : Option Run) (start : Space) (segment : Recording)
-        → IsFollowed before start segment history.now earlier.now
-        → space.now.space ≡ space_from start segment segment.log → places ≡ length segment.log
-        → IfSome index (λ index. HasPages index.pages start)
+    ensures finds { (b : Behind joined.now) → IfSome index (λ index. HasPages index.pages b.start)
         → IfSome index (λ index. AreListed (IsLeft left.now) index.lingering index.gone)
-        → HasStayed history.now.changes.items start space.now.space
-        → IfOk result (λ done. FindsReachable before start segment releases.now done.0) }
+        → HasStayed joined.now b.start
+        → IfOk result (λ done. FindsReachable b.before b.start b.segment releases.now done.0) }
     ensures index { (start : Space) → IfSome index (λ index. HasPages index.pages start)
-        → HasStayed history.now.changes.items start space.now.space
-        → IfOk result (λ done. IfSome done.1 (λ index. HasPages index.pages space.now.space)) }
-    ensures listed { (before : Option Run) (start : Space) (segment : Recording)
-        → IsFollowed before start segment history.now earlier.now
-        → space.now.space ≡ space_from start segment segment.log → places ≡ length segment.log
+        → HasStayed joined.now start
+        → IfOk result (λ done. IfSome done.1
+        (λ index. HasPages index.pages joined.now.space.space)) }
+    ensures listed { (b : Behind joined.now)
         → IfSome index (λ index. AreListed (IsLeft left.now) index.lingering index.gone)
         → IfOk result (λ done. IfSome done.1 (λ index. (event : ℕ)
-        × AreListed (IsOpen start segment (left_in earlier.now) event)
-        index.lingering index.gone)) }
+        × AreListed (IsOpen b event) index.lingering index.gone)) }
     ensures room { IfOk result (λ done. IfSome done.1 (λ index. HasRoom index.lingering)) }
     ensures within { IfOk result
         (λ done. IfSome done.0 (λ index. index < length releases.now)) }
 {
-    let changes: &[PlacedChange] = &history.changes;
     let many = releases.len();
     if many == 0 {
-        let index = index_after(alloc, index, left, changes, space)?;
+        let index = index_after(alloc, joined, index, left)?;
         return Ok((None, index));
     }
-    pages_are_a_space(space);
-    let present = changed_now(alloc, changes, space)?;
-    let begun = quiet_of(alloc, index, left, changes, space)?;
+    let present = changed_now(alloc, &joined.history.changes, &joined.space)?;
+    let begun = quiet_of(alloc, joined, index, left)?;
     let Indexes {
         pages,
         lingering,
         gone,
     } = begun;
-    let changed = Changed::of(alloc, history, &present, places)?;
+    let changed = Changed::of(alloc, joined, &present)?;
     let reach = Reach {
         quiet: pages,
         changed,
         lingering,
     };
-    let (found, gone) = first_wrong(
-        alloc, history, earlier, space, places, &reach, gone, releases,
-    )?;
+    let (found, gone) = first_wrong(alloc, joined, &reach, gone, releases)?;
     let Reach {
         quiet,
         lingering,
@@ -365,26 +390,15 @@ fn lower(address: Option<u64>, other: u64) -> u64
 }
 
 /// The least address of a frame of these pages from which an access that begins with the release could reach its memory, or `None`.
-fn least_address(
-    history: &History,
-    earlier: &[History],
-    space: &PlainSpace,
-    places: u32,
-    seen: &[Seen],
-    release: &Release,
-) -> Option<u64>
-    requires own { AreColumns history.now }
-    requires earlier { IsLadder earlier.now }
+fn least_address(joined: &Joined, seen: &[Seen], release: &Release) -> Option<u64>
+    requires built { IsBuilt joined.now }
     requires roomy { (s : SeenRow) → Contains seen.now s → IsRoomy s.page }
     requires memory { IsMemory release.now.size release.now.phys }
-    ensures { (before : Option Run) (start : Space) (segment : Recording)
-        → IsFollowed before start segment history.now earlier.now
-        → space.now.space ≡ space_from start segment segment.log → places ≡ length segment.log
-        → FindsAddress before start segment (left_in earlier.now) release.now seen.now result }
+    ensures { (b : Behind joined.now) → FindsAddress b release.now seen.now result }
 {
     let mut least = None;
     for each in seen {
-        match frame_there(history, earlier, space, places, release, each.page) {
+        match frame_there(joined, release, each.page) {
             Some(frame) => {
                 let address = frame_address(each.page, frame);
                 least = Some(lower(least, address));
@@ -396,27 +410,15 @@ fn least_address(
 }
 
 /// The least address of a frame from which an access that begins with the release could reach its memory, or `None` where none could.
-fn address_of(
-    history: &History,
-    earlier: &[History],
-    space: &PlainSpace,
-    places: u32,
-    seen: &[Seen],
-    release: &Release,
-) -> Option<u64>
-    requires own { AreColumns history.now }
-    requires earlier { IsLadder earlier.now }
-    requires seen { AreSeen history.now.changes.items (left_in earlier.now)
-        (pages space.now.space) places seen.now }
+fn address_of(joined: &Joined, seen: &[Seen], release: &Release) -> Option<u64>
+    requires built { IsBuilt joined.now }
+    requires seen { AreSeen joined.now (left_in joined.now.earlier.items)
+        (pages joined.now.space.space) seen.now }
     requires memory { IsMemory release.now.size release.now.phys }
-    ensures { (before : Option Run) (start : Space) (segment : Recording)
-        → IsFollowed before start segment history.now earlier.now
-        → space.now.space ≡ space_from start segment segment.log → places ≡ length segment.log
-        → FindsReached before start segment release.now result }
+    ensures { (b : Behind joined.now) → FindsReached b.before b.start b.segment release.now result }
 {
-    pages_are_a_space(space);
     event_fits(release.made);
-    least_address(history, earlier, space, places, seen, release)
+    least_address(joined, seen, release)
 }
 
 /// The least address from which an access that begins with the release could reach its memory, or `None` where none could.
@@ -445,10 +447,16 @@ pub fn reached(
 {
     let places = segment.log().len() as u32;
     let (changes, space) = replay(alloc, segment, start)?;
-    let columns = one_level(alloc, &tail.changes)?;
-    let earlier: &[History] = &columns;
+    let earlier = one_level(alloc, &tail.changes)?;
     let history = History::of(alloc, changes)?;
     let present = space.pages()?;
-    let seen = seen_of(alloc, &history, earlier, &present, places)?;
-    Ok(address_of(&history, earlier, &space, places, &seen, release))
+    pages_are_a_space(&space);
+    let joined = Joined {
+        history,
+        earlier,
+        space,
+        places,
+    };
+    let seen = seen_of(alloc, &joined, &present)?;
+    Ok(address_of(&joined, &seen, release))
 }

@@ -2,12 +2,13 @@
 
 ghost use Rattle.std.specs.Prelude.{◌≡◌, ◌++◌, [], map, Contains, IfOk};
 ghost use Rattle.vs_types.specs.declared.page.Page.{Page as PageRow};
-ghost use Rattle.nr_touch.specs.inside.Columns.{AreColumns};
+ghost use Rattle.nr_touch.specs.inside.Joined.{IsBuilt};
 ghost use Rattle.nr_touch.specs.inside.Reached.{seen_before, seen_left, seen_now, AreSeen, IsRoomy};
-ghost use Rattle.nr_touch.specs.inside.Levels.{left_in, IsLadder};
+ghost use Rattle.nr_touch.specs.inside.Levels.{left_in};
 
 use crate::changes::change::{PlacedChange, taken_at};
 use crate::changes::history::History;
+use crate::touches::joined::Joined;
 use std::alloc::Global;
 use vs_types::{Memory, Page};
 
@@ -84,13 +85,13 @@ fn all_left(alloc: Global, levels: &[History]) -> Result<Vec<Seen>, Memory>
     let mut seen = Vec::new(alloc);
     for level in levels {
         let more = all_of(alloc, &level.changes)?;
-        seen = joined(seen, &more)?;
+        seen = with_more(seen, &more)?;
     }
     Ok(seen)
 }
 
 /// Some pages, and behind them others.
-fn joined(seen: Vec<Seen>, more: &[Seen]) -> Result<Vec<Seen>, Memory>
+fn with_more(seen: Vec<Seen>, more: &[Seen]) -> Result<Vec<Seen>, Memory>
     ensures { IfOk result (λ v. v.items ≡ seen.items ++ more.now) }
 {
     let mut seen = seen;
@@ -98,41 +99,28 @@ fn joined(seen: Vec<Seen>, more: &[Seen]) -> Result<Vec<Seen>, Memory>
     Ok(seen)
 }
 
-/// Of so many pages that are there after the log of a segment, which has so many places, and of those before its changes: each that a touch
+/// Of so many pages that are there after the log of a segment, and of those before its changes: each that a touch
 /// may find by the segment alone. Allocates 32 bytes for each of them; and as many again, which are freed, for each that a change is of.
-pub(crate) fn seen_in(
-    alloc: Global,
-    history: &History,
-    present: &[Page],
-    places: u32,
-) -> Result<Vec<Seen>, Memory>
-    requires own { AreColumns history.now }
+pub(crate) fn seen_in(alloc: Global, joined: &Joined, present: &[Page]) -> Result<Vec<Seen>, Memory>
+    requires built { IsBuilt joined.now }
     requires roomy { (page : PageRow) → Contains present.now page → IsRoomy page }
-    ensures { IfOk result (λ seen. AreSeen history.now.changes.items [] present.now places
-        seen.items) }
+    ensures { IfOk result (λ seen. AreSeen joined.now [] present.now seen.items) }
 {
-    let now = all_now(alloc, present, places)?;
-    let before = all_before(alloc, &history.changes)?;
-    let seen = joined(now, &before)?;
+    let now = all_now(alloc, present, joined.places)?;
+    let before = all_before(alloc, &joined.history.changes)?;
+    let seen = with_more(now, &before)?;
     Ok(seen)
 }
 
 /// The same, and those that earlier segments left. Allocates as much again for each of these.
-pub(crate) fn seen_of(
-    alloc: Global,
-    history: &History,
-    earlier: &[History],
-    present: &[Page],
-    places: u32,
-) -> Result<Vec<Seen>, Memory>
-    requires own { AreColumns history.now }
-    requires earlier { IsLadder earlier.now }
+pub(crate) fn seen_of(alloc: Global, joined: &Joined, present: &[Page]) -> Result<Vec<Seen>, Memory>
+    requires built { IsBuilt joined.now }
     requires roomy { (page : PageRow) → Contains present.now page → IsRoomy page }
-    ensures { IfOk result (λ seen. AreSeen history.now.changes.items (left_in earlier.now)
-        present.now places seen.items) }
+    ensures { IfOk result (λ seen. AreSeen joined.now (left_in joined.now.earlier.items)
+        present.now seen.items) }
 {
-    let own = seen_in(alloc, history, present, places)?;
-    let left = all_left(alloc, earlier)?;
-    let seen = joined(own, &left)?;
+    let own = seen_in(alloc, joined, present)?;
+    let left = all_left(alloc, &joined.earlier)?;
+    let seen = with_more(own, &left)?;
     Ok(seen)
 }

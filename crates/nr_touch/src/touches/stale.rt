@@ -4,8 +4,6 @@ ghost use Rattle.std.specs.Prelude.{◌≡◌, ◌↔◌, ◌<◌, ◌≤◌, �
 ghost use Rattle.vs_types.specs.Space.{Space, page_at};
 ghost use Rattle.vs_types.specs.Step.{look, allow, allow_in_page};
 ghost use Rattle.nr_trace.specs.Laws.{HasCleanLog};
-ghost use Rattle.nr_trace.specs.Orders.{space_from};
-ghost use Rattle.nr_trace.specs.Recording.{Recording};
 ghost use Rattle.nr_joined.specs.Run.{Run, run_with};
 ghost use Rattle.nr_touch.specs.Touches.{IsAnsweredInTime, IsFaultOfLagging, IsFaultOfNone};
 ghost use Rattle.vs_types.specs.declared.page.Page.{Page as PageRow};
@@ -14,11 +12,11 @@ ghost use Rattle.nr_touch.specs.Excuses.{AreExcusedBy};
 ghost use Rattle.nr_touch.specs.Releases.{AreMemory, FindsReachable};
 ghost use Rattle.nr_touch.specs.Stale.{FindsStale};
 ghost use Rattle.nr_touch.specs.Tails.{GoesOn, IsSoundTail, IsTailOf};
-ghost use Rattle.nr_touch.specs.inside.Changes.{AreChanges};
 ghost use Rattle.nr_touch.specs.inside.Columns.{AreColumns, Covers, IsNumbered};
 ghost use Rattle.nr_touch.specs.inside.Earlier.{IsAnsweredSo};
 ghost use Rattle.nr_touch.specs.inside.Walk.{shown, IsAnsweredWithin};
 ghost use Rattle.nr_touch.specs.declared.changes.change.PlacedChange.{PlacedChange as PlacedRow};
+ghost use Rattle.nr_touch.specs.inside.Joined.{Behind, IsBuilt};
 ghost use Rattle.nr_touch.specs.inside.Levels.{left_in, IsLadder};
 
 use crate::changes::change::{Change, PlacedChange};
@@ -31,11 +29,13 @@ use crate::releases::release::Release;
 use crate::touches::beside::beside_if;
 use crate::touches::between::is_answered_between;
 use crate::touches::excuse::{Excuse, excuses_of};
+use crate::touches::joined::Joined;
 use crate::touches::tail::{Tail, left_after, lefts_of};
 use crate::touches::touch::Touch;
 use nr_trace::Trace;
 use std::alloc::Global;
 use vs_plain::PlainSpace;
+use vs_plain::laws::pages_are_a_space;
 use vs_types::{Answer, Memory, fault_code};
 
 fn is_same(recorded: Answer, given: Answer) -> bool
@@ -79,31 +79,23 @@ fn lies_before(change: Option<PlacedChange>, place: u32) -> bool
 /// Whether the touch is answered as its address was after some entries: the first number of them, the last, or some number between.
 /// At most six searches by halving in the changes of the three pages that may have the address; and where neither end is right and a
 /// change lies between, at most 24 in how pages looked before changes.
-pub(crate) fn is_answered_within(
-    history: &History,
-    space: &PlainSpace,
-    touch: &Touch,
-    first: u32,
-    last: u32,
-) -> bool
-    requires { AreColumns history.now }
-    ensures { (start : Space) (trace : Recording) → AreChanges start trace history.now.changes.items
-        → space.now.space ≡ space_from start trace trace.log → first ≤ last
-        → last ≤ length trace.log
-        → IsTrue result ↔ IsAnsweredWithin start trace touch.now first last }
+pub(crate) fn is_answered_within(joined: &Joined, touch: &Touch, first: u32, last: u32) -> bool
+    requires { IsBuilt joined.now }
+    ensures { (b : Behind joined.now) → first ≤ last → last ≤ length b.segment.log
+        → IsTrue result ↔ IsAnsweredWithin b.start b.segment touch.now first last }
 {
-    let next = history.next(touch.address, first);
-    if answers(look_until(next, space, touch.address), touch) {
+    let next = joined.history.next(touch.address, first);
+    if answers(look_until(next, &joined.space, touch.address), touch) {
         return true;
     }
     if !lies_before(next, last) {
         return false;
     }
-    let later = history.next(touch.address, last);
-    if answers(look_until(later, space, touch.address), touch) {
+    let later = joined.history.next(touch.address, last);
+    if answers(look_until(later, &joined.space, touch.address), touch) {
         return true;
     }
-    is_answered_between(history, touch, first, last)
+    is_answered_between(&joined.history, touch, first, last)
 }
 
 /// Whether the touch faults since no page has its address.
@@ -124,42 +116,38 @@ pub(crate) fn finds_page(touch: &Touch) -> bool
 }
 
 /// Whether the touch is answered as its address was after some entries that are allowed.
-pub(crate) fn is_in_time(history: &History, space: &PlainSpace, places: u32, touch: &Touch) -> bool
-    requires { AreColumns history.now }
-    ensures { (start : Space) (trace : Recording) → AreChanges start trace history.now.changes.items
-        → space.now.space ≡ space_from start trace trace.log → places ≡ length trace.log
-        → IsTrue result ↔ IsAnsweredInTime start trace touch.now }
+pub(crate) fn is_in_time(joined: &Joined, touch: &Touch) -> bool
+    requires { IsBuilt joined.now }
+    ensures { (b : Behind joined.now)
+        → IsTrue result ↔ IsAnsweredInTime b.start b.segment touch.now }
 {
-    let last = history.last_allowed(touch.address, touch.answered, places);
+    let history = &joined.history;
+    let last = history.last_allowed(touch.address, touch.answered, joined.places);
     let first = history.first_allowed(touch.address, touch.made, finds_page(touch));
     if last < first {
         return false;
     }
-    is_answered_within(history, space, touch, first, last)
+    is_answered_within(joined, touch, first, last)
 }
 
 /// Whether the touch faults by a table that lags: one that has no page at the address yet.
-pub(crate) fn is_of_lagging(
-    history: &History,
-    space: &PlainSpace,
-    places: u32,
-    touch: &Touch,
-) -> bool
-    requires { AreColumns history.now }
-    ensures { (start : Space) (trace : Recording) → AreChanges start trace history.now.changes.items
-        → space.now.space ≡ space_from start trace trace.log → places ≡ length trace.log
-        → IsTrue result ↔ IsFaultOfLagging start trace touch.now }
+pub(crate) fn is_of_lagging(joined: &Joined, touch: &Touch) -> bool
+    requires { IsBuilt joined.now }
+    ensures { (b : Behind joined.now)
+        → IsTrue result ↔ IsFaultOfLagging b.start b.segment touch.now }
 {
     if !is_fault_of_none(touch) {
         return false;
     }
-    let last = history.last_allowed(touch.address, touch.answered, places);
+    let last = joined
+        .history
+        .last_allowed(touch.address, touch.answered, joined.places);
     let known = touch.known;
     let most = u64::from(last);
     if most < known {
         return false;
     }
-    is_answered_within(history, space, touch, known as u32, last)
+    is_answered_within(joined, touch, known as u32, last)
 }
 
 /// Whether the touch is answered as its address may still be found to look by the levels before, or with this one behind them.
@@ -297,10 +285,20 @@ pub fn follow(
     let lefts = lefts_of(alloc, &own)?;
     let beside = beside_if(counts, alloc, segment, &own)?;
     let history = History::of(alloc, own)?;
-    let (stale, excuses) = excuses_of(alloc, &history, &levels, &space, places, touches)?;
-    let (reachable, index) = first_reachable(
-        alloc, &history, &levels, &changes, &space, places, index, releases,
-    )?;
+    pages_are_a_space(&space);
+    let joined = Joined {
+        history,
+        earlier: levels,
+        space,
+        places,
+    };
+    let (stale, excuses) = excuses_of(alloc, &joined, touches)?;
+    let (reachable, index) = first_reachable(alloc, &joined, &changes, index, releases)?;
+    let Joined {
+        earlier: levels,
+        space,
+        ..
+    } = joined;
     let (changes, levels) = left_after(alloc, changes, levels, &lefts)?;
     let index = indexes_after(alloc, index, &changes, &lefts)?;
     let start = undo_all(space, &done)?;

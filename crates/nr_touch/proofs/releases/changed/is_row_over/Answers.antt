@@ -21,5 +21,5 @@ is_settled-requires-clause-page c =
 
 pub returns : goal.returns
 returns c = λ t stay at.
-    inr (subst (λ (q : Stay). IsSettled c.args.history.now.changes.items c.args.release.now q.page q.place)
+    inr (subst (λ (q : Stay). IsSettled c.args.joined.now.history.changes.items c.args.release.now q.page q.place)
     (get_or_from_slice_get c.args.stays.now c.args.row stay _ at) (c.is_settled.ensures t))

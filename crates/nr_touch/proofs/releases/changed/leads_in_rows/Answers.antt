@@ -1,7 +1,6 @@
 use Rattle.std.proofs.Common.{ℕ, ◌-◌, ◌<◌, inl, inr, List, length, slice_get, sym, ap, ◌∙◌, subst, arith}
 use Rattle.std.proofs.lemmas.Bool.{cases_lt, false≢true}
 use Rattle.std.proofs.lemmas.List.{get_or_read}
-use Rattle.nr_touch.specs.inside.Levels.{left_in}
 use Rattle.nr_touch.specs.inside.Stays.{AreRoomy}
 use Rattle.nr_touch.specs.declared.releases.stays.Stay.{Stay}
 use Rattle.nr_touch.specs.inside.Overs.{AreOver}
@@ -16,11 +15,8 @@ loop-end-init c =
     record {
       within = found.within;
       most = found.before;
-      none = λ run start segment followed are places.
-          none_begun start segment (left_in c.args.earlier.now) c.args.release.now c.args.changed.now.stays.items c.args.changed.now.lives
-          c.args.block c.begun-end.result found;
-      over = λ run start segment followed are places known.
-          over_from start segment (left_in c.args.earlier.now) c.args.changed.now c.args.release.now c.args.block c.begun-end.result c.args.before known;
+      none = λ b. none_begun b c.args.release.now c.args.changed.now.stays.items c.args.changed.now.lives c.args.block c.begun-end.result found;
+      over = λ b known. over_from b c.args.changed.now c.args.release.now c.args.block c.begun-end.result c.args.before known;
     }
 
 pub index-own-requires : goal.index-own-requires
@@ -28,31 +24,28 @@ index-own-requires c = let within = c.loop-end.invariant.within in omega (arith,
 
 -- a row of another block: none of this one lies before it
 pub returns-then-own-block-clause-whole : goal.returns-then-own-block-clause-whole
-returns-then-own-block-clause-whole c = λ run start segment stay followed are places known has of from until leads.
+returns-then-own-block-clause-whole c = λ b stay known has of from until leads.
     let lives = c.args.changed.now.lives in
     let inv = c.loop-end.invariant in
     let last = c.loop-end.end - 1 in
     let test : 0 < c.loop-end.end = omega (arith, c.loop-end-test.true) in
     let within : last < length lives.blocks.items = let w = inv.within in omega (arith, test, w) in
     let value = get_or_read lives.blocks.items last c.index-own.result.now within c.index-own.ensures 0 in
-    absurd (none_of_block start segment (left_in c.args.earlier.now) c.args.changed.now c.args.release.now c.args.block c.requires.rows.rows c.args.before
-    c.loop-end.end
-    (λ k past low own.
+    absurd (none_of_block b c.args.changed.now c.args.release.now c.args.block c.requires.rows.rows c.args.before c.loop-end.end (λ k past low own.
     other_block lives c.requires.rows.lives c.args.block last within (inv.most last (omega (arith, test))) (λ e. c.if-own-block.true (value ∙ e)) k
-    (omega (arith, low, test)) own) known (inv.none run start segment followed are places) stay has of from until leads)
+    (omega (arith, low, test)) own) known (inv.none b) stay has of from until leads)
 
 pub returns-then-own-block-clause-over : goal.returns-then-own-block-clause-over
-returns-then-own-block-clause-over c = λ run start segment followed are places known is.
+returns-then-own-block-clause-over c = λ b known is.
     let lives = c.args.changed.now.lives in
     let inv = c.loop-end.invariant in
     let last = c.loop-end.end - 1 in
     let test : 0 < c.loop-end.end = omega (arith, c.loop-end-test.true) in
     let within : last < length lives.blocks.items = let w = inv.within in omega (arith, test, w) in
     let value = get_or_read lives.blocks.items last c.index-own.result.now within c.index-own.ensures 0 in
-    all_over start segment (left_in c.args.earlier.now) c.args.changed.now c.args.release.now c.args.block c.args.before c.loop-end.end c.loop-end.over
-    (λ k past low own.
+    all_over b c.args.changed.now c.args.release.now c.args.block c.args.before c.loop-end.end c.loop-end.over (λ k past low own.
     other_block lives c.requires.rows.lives c.args.block last within (inv.most last (omega (arith, test))) (λ e. c.if-own-block.true (value ∙ e)) k
-    (omega (arith, low, test)) own) known (inv.over run start segment followed are places known)
+    (omega (arith, low, test)) own) known (inv.over b known)
 
 pub index-until-requires : goal.index-until-requires
 index-until-requires c =
@@ -92,17 +85,13 @@ loop-end-preserved-then-until-made c =
     record {
       within = omega (arith, low, w);
       most = λ k less. inv.most k (omega (arith, less, low));
-      none = λ run start segment followed are places.
-          subst (NoneLeadsFrom start segment (left_in c.args.earlier.now) c.args.release.now stays lives c.args.block) (sym value)
-          (stretch_more start segment (left_in c.args.earlier.now) c.args.release.now stays lives c.args.block stretches.since.items stretches.until.items
-          c.requires.rows.stretches last c.loop-end.end (omega (arith, test)) within (omega (arith, ends, c.if-until-made.true))
-          (inv.none run start segment followed are places));
-      over = λ run start segment followed are places known.
-          subst (λ (begin : ℕ). AreOver start segment (left_in c.args.earlier.now) c.args.changed.now c.args.release.now c.args.block begin c.loop-end.over)
-          (sym value)
-          (stretch_over start segment (left_in c.args.earlier.now) c.args.changed.now c.args.release.now c.args.block c.requires.rows.stretches last
-          c.loop-end.end c.loop-end.over (omega (arith, test)) within (omega (arith, ends, c.if-until-made.true))
-          (inv.over run start segment followed are places known));
+      none = λ b. subst (NoneLeadsFrom b c.args.release.now stays lives c.args.block) (sym value)
+          (stretch_more b c.args.release.now stays lives c.args.block stretches.since.items stretches.until.items
+          c.requires.rows.stretches last c.loop-end.end (omega (arith, test)) within (omega (arith, ends, c.if-until-made.true)) (inv.none b));
+      over = λ b known.
+          subst (λ (begin : ℕ). AreOver b c.args.changed.now c.args.release.now c.args.block begin c.loop-end.over) (sym value)
+          (stretch_over b c.args.changed.now c.args.release.now c.args.block c.requires.rows.stretches last
+          c.loop-end.end c.loop-end.over (omega (arith, test)) within (omega (arith, ends, c.if-until-made.true)) (inv.over b known));
     }
 
 pub index-row-requires : goal.index-row-requires
@@ -115,8 +104,7 @@ pub leads_in_row-requires-clause-roomy : goal.leads_in_row-requires-clause-roomy
 leads_in_row-requires-clause-roomy c = subst AreRoomy (sym c.deref.ensures.value) c.requires.rows.roomy
 
 pub returns-then-leads_in_row-clause-sound : goal.returns-then-leads_in_row-clause-sound
-returns-then-leads_in_row-clause-sound c = λ run start segment followed are places t.
-    c.leads_in_row.ensures.sound run start segment followed are places c.if-leads_in_row.true
+returns-then-leads_in_row-clause-sound c = λ b t. c.leads_in_row.ensures.sound b c.if-leads_in_row.true
 
 pub loop-end-preserved : goal.loop-end-preserved
 loop-end-preserved c =
@@ -130,41 +118,34 @@ loop-end-preserved c =
     record {
       within = let w = inv.within in omega (arith, test, w);
       most = λ k low. inv.most k (omega (arith, low, test));
-      none = λ run start segment followed are places.
-          one_more start segment (left_in c.args.earlier.now) c.args.release.now stays lives c.args.block last c.loop-end.end (omega (arith, test))
-          (λ stay at until leads. false≢true (sym c.if-leads_in_row.false
-          ∙ c.leads_in_row.ensures.whole run start segment stay followed are places
-          (ap (λ (xs : List Stay). slice_get xs c.index-row.result.now) c.deref.ensures.value ∙ ap (slice_get stays) row ∙ at) until leads))
-          (inv.none run start segment followed are places);
-      over = λ run start segment followed are places known.
-          row_over start segment (left_in c.args.earlier.now) c.args.changed.now c.args.release.now c.args.block last c.loop-end.end c.loop-end.over
+      none = λ b. one_more b c.args.release.now stays lives c.args.block last c.loop-end.end (omega (arith, test))
+          (λ stay at until leads. false≢true (sym c.if-leads_in_row.false ∙ c.leads_in_row.ensures.whole b stay
+          (ap (λ (xs : List Stay). slice_get xs c.index-row.result.now) c.deref.ensures.value ∙ ap (slice_get stays) row ∙ at) until leads)) (inv.none b);
+      over = λ b known. row_over b c.args.changed.now c.args.release.now c.args.block last c.loop-end.end c.loop-end.over
           c.is_row_over-is_over.result c.over_with-over.result (omega (arith, test)) c.over_with-over.ensures
           (λ is stay at. elim (c.is_row_over-is_over.ensures is stay
           (ap (λ (xs : List Stay). slice_get xs c.index-row.result.now) c.deref-else-until-made.ensures.value ∙ ap (slice_get stays) row ∙ at)) [
-            | inl ended ↦ ended_over start segment (left_in c.args.earlier.now) c.args.release.now stay ended
+            | inl ended ↦ ended_over b c.args.release.now stay ended
             | inr settled ↦ elim (cases_lt stay.until c.args.release.now.made) [
-              | inr there ↦ settled_over start segment c.args.history.now.changes.items (left_in c.args.earlier.now) followed.own
-                  c.args.release.now stay settled
-                  (λ leads. false≢true (sym c.if-leads_in_row.false
-                  ∙ c.leads_in_row.ensures.whole run start segment stay followed are places
+              | inr there ↦ settled_over b c.args.release.now stay settled (λ leads. false≢true (sym c.if-leads_in_row.false
+                  ∙ c.leads_in_row.ensures.whole b stay
                   (ap (λ (xs : List Stay). slice_get xs c.index-row.result.now) c.deref.ensures.value ∙ ap (slice_get stays) row ∙ at) there leads))
-              | inl ended ↦ ended_over start segment (left_in c.args.earlier.now) c.args.release.now stay ended
+              | inl ended ↦ ended_over b c.args.release.now stay ended
             ]
-          ]) (inv.over run start segment followed are places known);
+          ]) (inv.over b known);
     }
 
 pub is_row_over-is_over-requires-clause-roomy : goal.is_row_over-is_over-requires-clause-roomy
 is_row_over-is_over-requires-clause-roomy c = subst AreRoomy (sym c.deref-else-until-made.ensures.value) c.requires.rows.roomy
 
 pub returns-clause-whole : goal.returns-clause-whole
-returns-clause-whole c = λ run start segment stay followed are places known has of from until leads.
+returns-clause-whole c = λ b stay known has of from until leads.
     let test = c.loop-end-test.false in
-    absurd (none_of_block start segment (left_in c.args.earlier.now) c.args.changed.now c.args.release.now c.args.block c.requires.rows.rows c.args.before
-    c.loop-end.end (λ k past low own. omega (arith, past, low, test)) known (c.loop-end.invariant.none run start segment followed are places) stay has of
-    from until leads)
+    absurd (none_of_block b c.args.changed.now c.args.release.now c.args.block c.requires.rows.rows c.args.before
+    c.loop-end.end (λ k past low own. omega (arith, past, low, test)) known (c.loop-end.invariant.none b) stay has of from until leads)
 
 pub returns-clause-over : goal.returns-clause-over
-returns-clause-over c = λ run start segment followed are places known is.
+returns-clause-over c = λ b known is.
     let test = c.loop-end-test.false in
-    all_over start segment (left_in c.args.earlier.now) c.args.changed.now c.args.release.now c.args.block c.args.before c.loop-end.end c.loop-end.over
-    (λ k past low own. omega (arith, past, low, test)) known (c.loop-end.invariant.over run start segment followed are places known)
+    all_over b c.args.changed.now c.args.release.now c.args.block c.args.before c.loop-end.end c.loop-end.over
+    (λ k past low own. omega (arith, past, low, test)) known (c.loop-end.invariant.over b known)

@@ -12,14 +12,12 @@ use Rattle.nr_touch.proofs.releases.lingering.leads_in_rows.Goals as goal
 
 pub loop-row-preserved : goal.loop-row-preserved
 loop-row-preserved c =
-    one_more (λ (row : Bor (ℕ × ℕ)). NoneAt c.args.history.now c.args.earlier.now c.args.space.now.space c.args.places c.args.release.now
-    c.args.lingering.now.pages.items row.now.1) c.loop-row.yielded c.in-Some.row c.loop-row.invariant
-    (λ run start segment page followed are places at leads. false≢true (sym c.if-leads_in_row.false
-    ∙ c.leads_in_row.ensures.whole run start segment page followed are places
+    one_more (λ (row : Bor (ℕ × ℕ)). NoneAt c.args.joined.now c.args.release.now c.args.lingering.now.pages.items row.now.1)
+    c.loop-row.yielded c.in-Some.row c.loop-row.invariant (λ b page at leads. false≢true (sym c.if-leads_in_row.false ∙ c.leads_in_row.ensures.whole b page
     (ap (λ (xs : List Page). slice_get xs c.in-Some.row.now.1) c.deref.ensures.value ∙ at) leads))
 
 pub returns-clause-whole : goal.returns-clause-whole
-returns-clause-whole c = λ run start segment page number followed are places at indexed of from leads.
+returns-clause-whole c = λ b page number at indexed of from leads.
     let block = c.args.block in
     let found = c.range-row-items.result in
     let pages = c.args.lingering.now.pages in
@@ -31,5 +29,4 @@ returns-clause-whole c = λ run start segment page number followed are places at
     c.next.ensures.steps in
     let (row, has, same) = map_contains deref c.loop-row.yielded (block, number)
     (subst (λ (rows : List (ℕ × ℕ)). Contains rows (block, number)) (sym all.0) there) in
-    absurd (c.loop-row.invariant row has run start segment page followed are places
-    (ap (λ (q : ℕ × ℕ). slice_get pages.items q.1) same ∙ at) leads)
+    absurd (c.loop-row.invariant row has b page (ap (λ (q : ℕ × ℕ). slice_get pages.items q.1) same ∙ at) leads)

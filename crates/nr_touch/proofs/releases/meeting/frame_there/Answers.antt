@@ -1,13 +1,12 @@
 use Rattle.std.proofs.Common.{inl, inr, sym, ◌∙◌, arith}
 use Rattle.std.proofs.lemmas.Bool.{cases_lt, false≢true}
-use Rattle.nr_touch.specs.inside.Levels.{left_in}
 use Rattle.nr_touch.proofs.ReachedPages.{leads_alike}
 use Rattle.nr_touch.proofs.releases.meeting.frame_there.Goals as goal
 
 pub loop-frame-init : goal.loop-frame-init
 loop-frame-init c = record {
   has = c.first_frame-frame.ensures.has;
-  none = λ before start segment followed are places leads. c.first_frame-frame.ensures.least leads.frame leads.has;
+  none = λ b leads. c.first_frame-frame.ensures.least leads.frame leads.has;
 }
 
 pub overflow_mul-offset : goal.overflow_mul-offset
@@ -29,9 +28,9 @@ is_met-requires-clause-frame c =
     omega (arith, within, low)
 
 pub returns-then-is_met-clause-finds : goal.returns-then-is_met-clause-finds
-returns-then-is_met-clause-finds c = λ before start segment followed are places. record {
-  met = (c.is_met.ensures before start segment followed are places).0 c.if-is_met.true;
-  first = λ leads. c.loop-frame.invariant.none before start segment followed are places leads;
+returns-then-is_met-clause-finds c = λ b. record {
+  met = (c.is_met.ensures b).0 c.if-is_met.true;
+  first = λ leads. c.loop-frame.invariant.none b leads;
 }
 
 pub returns-then-is_met-clause-within : goal.returns-then-is_met-clause-within
@@ -49,20 +48,18 @@ loop-frame-preserved c =
     let here = c.loop-frame.invariant.has in
     record {
       has = let up = next.up in omega (arith, up, here);
-      none = λ before start segment followed are places leads. elim (cases_lt leads.frame c.next_frame-frame.result) [
+      none = λ b leads. elim (cases_lt leads.frame c.next_frame-frame.result) [
         | inl low ↦
-            let from = c.loop-frame.invariant.none before start segment followed are places leads in
-            absurd (false≢true (sym c.if-is_met.false ∙ (c.is_met.ensures before start segment followed are places).1
-            (leads_alike before start segment c.args.history.now.changes.items (left_in c.args.earlier.now) followed.own followed.goes_on followed.earlier
-            c.args.space.now.space c.args.space.now.depth c.pages_are_a_space.ensures are c.args.release.now c.args.page c.requires.page
-            leads c.loop-frame.frame
-            from here (next.own leads.frame from low) (next.earlier leads.frame from low))))
+            let from = c.loop-frame.invariant.none b leads in
+            absurd (false≢true (sym c.if-is_met.false ∙ (c.is_met.ensures b).1
+            (leads_alike c.requires.built b c.args.release.now c.args.page c.requires.page leads c.loop-frame.frame from here
+            (next.own leads.frame from low) (next.earlier leads.frame from low))))
         | inr past ↦ past
       ];
     }
 
 pub returns-clause-finds : goal.returns-clause-finds
-returns-clause-finds c = λ before start segment followed are places leads.
-    let low = c.loop-frame.invariant.none before start segment followed are places leads in
+returns-clause-finds c = λ b leads.
+    let low = c.loop-frame.invariant.none b leads in
     let less = c.end_frame-end.ensures.behind leads.frame leads.within leads.has in
     omega (arith, low, less, c.loop-frame-test.false)

@@ -4,4 +4,4 @@ use Rattle.nr_touch.proofs.QuietRows.{NoneFrom}
 use Rattle.nr_touch.proofs.releases.quiet.leads_in_pages.Given as goal
 
 abbrev pub invariant-loop-row : goal.invariant-loop-row
-invariant-loop-row l = (row : Bor (ℕ × ℕ)) → Contains l.yielded row → NoneFrom l.history l.earlier l.space.space l.places l.release row.now.1
+invariant-loop-row l = (row : Bor (ℕ × ℕ)) → Contains l.yielded row → NoneFrom l.joined l.release row.now.1

@@ -20,10 +20,9 @@ in_built None start space built kept new has page was is = new refl page is
 in_built (Some index) start space built kept new has page was is = subst (λ (i : Indexes). IsIndexed i.pages page) (sym kept) (has page was)
 
 pub returns-clause-quiet : goal.returns-clause-quiet
-returns-clause-quiet c = λ start has stayed page holds none.
-    c.forget_all.ensures page none
-    (in_built c.args.index start c.args.space.now.space c.in_ok-quiet.quiet c.in_ok-quiet.ensures.kept (λ gone. (c.in_ok-quiet.ensures.new gone).0) has page
-    (stayed page holds none) holds)
+returns-clause-quiet c = λ start has stayed page holds none. c.forget_all.ensures page (λ own. none (rw c.deref.ensures.value at own))
+    (in_built c.args.index start c.args.joined.now.space.space c.in_ok-quiet.quiet c.in_ok-quiet.ensures.kept (λ gone. (c.in_ok-quiet.ensures.new gone).0)
+    has page (stayed page holds none) holds)
 
 pub returns-clause-listed : goal.returns-clause-listed
 returns-clause-listed c =

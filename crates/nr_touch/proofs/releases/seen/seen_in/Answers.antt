@@ -6,5 +6,4 @@ use Rattle.nr_touch.proofs.releases.seen.seen_in.Goals as goal
 pub returns : goal.returns
 returns c =
     let before = c.deref-2.ensures.value ∙ c.in_ok-before.ensures ∙ ap (map seen_before) c.deref.ensures.value in
-    own_seen c.args.history.now.changes.items c.args.present.now c.args.places c.requires.roomy c.requires.own.numbered _ _ _ c.in_ok-now.ensures before
-    c.in_ok-seen.ensures
+    own_seen c.requires.built c.args.present.now c.requires.roomy _ _ _ c.in_ok-now.ensures before c.in_ok-seen.ensures

@@ -1,19 +1,21 @@
-use Rattle.std.proofs.Common.{◌≡◌, ◌<◌, List, ◌++◌, Option, IfSome, length, map, refl, sym, ap, ◌∙◌, subst, arith}
+use Rattle.std.proofs.Common.{◌≡◌, ℕ, ◌<◌, List, ◌++◌, Option, IfSome, length, map, refl, sym, ap, ◌∙◌, subst, arith}
 use Rattle.std.specs.List.Sorted.{IsPermutation}
 use Rattle.std.proofs.lemmas.List.Sorted.{Contains-permutation}
-use Rattle.vs_types.specs.Space.{Space}
-use Rattle.nr_trace.specs.Laws.{HasCleanLog}
+use Rattle.vs_types.specs.Space.{Space, Holds}
+use Rattle.nr_trace.specs.Orders.{space_from}
 use Rattle.nr_trace.specs.Recording.{Recording}
 use Rattle.nr_joined.specs.Run.{Run}
+use Rattle.vs_types.specs.declared.page.Page.{Page}
+use Rattle.vs_plain.specs.Plain.{BoundedSpace}
 use Rattle.vs_types.specs.declared.depth.Depth.{Depth}
 use Rattle.nr_joined.proofs.Orderly.{clean_is_orderly}
 use Rattle.nr_touch.specs.declared.changes.change.Change.{Change}
 use Rattle.nr_touch.specs.declared.changes.change.PlacedChange.{PlacedChange}
 use Rattle.nr_touch.specs.inside.Changes.{AreChanges}
-use Rattle.nr_touch.specs.inside.Earlier.{AreOfRun, IsFollowed}
-use Rattle.nr_touch.specs.inside.Levels.{left_in, AreLevels, IsLadder}
+use Rattle.nr_touch.specs.inside.Joined.{Behind}
+use Rattle.nr_touch.specs.inside.Levels.{left_in, AreLevels}
 use Rattle.nr_touch.specs.Tails.{GoesOn, HasIndexes, IsLeft, IsTailOf}
-use Rattle.nr_touch.specs.inside.Indexed.{HasPages, HasStayed}
+use Rattle.nr_touch.specs.inside.Indexed.{HasOwn, HasPages}
 use Rattle.nr_touch.specs.inside.Lefts.{left_of, KeepLooks}
 use Rattle.nr_touch.specs.inside.Listed.{AreListed}
 use Rattle.nr_touch.specs.declared.changes.history.History.{History}
@@ -38,48 +40,54 @@ led depth own start changes listed now same are leads =
     subst (λ d. LeadsTo d start listed now) (sym same) (subst (λ (cs : List Change). LeadsTo depth start cs now) (sym are) leads)
 
 -- the columns of what was left
-pub excuses_of-requires-clause-earlier : goal.excuses_of-requires-clause-earlier
-excuses_of-requires-clause-earlier c =
-    subst IsLadder (sym c.deref-4.ensures.value) (ladder c.args.tail.changes.items c.args.tail.levels.items c.requires.sound.1)
+pub excuses_of-requires : goal.excuses_of-requires
+excuses_of-requires c = record {
+  own = c.in_ok-history.ensures.columns;
+  earlier = ladder c.args.tail.changes.items c.args.tail.levels.items c.requires.sound.1;
+  is_space = c.pages_are_a_space.ensures;
+}
 
-pub first_reachable-requires-clause-earlier : goal.first_reachable-requires-clause-earlier
-first_reachable-requires-clause-earlier c =
-    subst IsLadder (sym c.deref-5.ensures.value) (ladder c.args.tail.changes.items c.args.tail.levels.items c.requires.sound.1)
+pub first_reachable-requires-clause-built : goal.first_reachable-requires-clause-built
+first_reachable-requires-clause-built c = record {
+  own = c.in_ok-history.ensures.columns;
+  earlier = ladder c.args.tail.changes.items c.args.tail.levels.items c.requires.sound.1;
+  is_space = c.pages_are_a_space.ensures;
+}
 
 pub first_reachable-requires-clause-levels : goal.first_reachable-requires-clause-levels
-first_reachable-requires-clause-levels c = rw (c.deref-5.ensures.value, c.deref-6.ensures.value) c.requires.sound.1
+first_reachable-requires-clause-levels c = rw c.deref-4.ensures.value c.requires.sound.1
 
 pub first_reachable-requires-clause-sound : goal.first_reachable-requires-clause-sound
-first_reachable-requires-clause-sound c = rw c.deref-6.ensures.value c.requires.sound.0
+first_reachable-requires-clause-sound c = rw c.deref-4.ensures.value c.requires.sound.0
 
 pub first_reachable-requires-clause-room : goal.first_reachable-requires-clause-room
 first_reachable-requires-clause-room c = c.requires.sound.2
 
 pub indexes_after-requires-clause-changes : goal.indexes_after-requires-clause-changes
-indexes_after-requires-clause-changes c = rw c.deref-8.ensures.value c.in_ok-changes.ensures.sound.each
+indexes_after-requires-clause-changes c = rw c.deref-6.ensures.value c.in_ok-changes.ensures.sound.each
 
 pub indexes_after-requires-clause-own : goal.indexes_after-requires-clause-own
 indexes_after-requires-clause-own c =
-    rw (c.deref-9.ensures.value, c.in_ok-lefts.ensures, c.deref-2.ensures.value)
+    rw (c.deref-7.ensures.value, c.in_ok-lefts.ensures, c.deref-2.ensures.value)
     (sound_lefts c.in_ok-own.own.items c.in_ok-own.ensures.numbered)
 
 pub left_after-requires-clause-own : goal.left_after-requires-clause-own
-left_after-requires-clause-own c =
-    rw (c.deref-7.ensures.value, c.in_ok-lefts.ensures, c.deref-2.ensures.value)
+left_after-requires-clause-own c = rw (c.deref-5.ensures.value, c.in_ok-lefts.ensures, c.deref-2.ensures.value)
     (sound_lefts c.in_ok-own.own.items c.in_ok-own.ensures.numbered)
 
 pub undo_all-requires : goal.undo_all-requires
 undo_all-requires c =
-    let listed = c.deref-10.ensures.value ∙ c.in_ok-done.ensures ∙ ap (map (λ (each : PlacedChange). each.change)) c.deref.ensures.value in (
+    let listed = c.deref-8.ensures.value ∙ c.in_ok-done.ensures ∙ ap (map (λ (each : PlacedChange). each.change)) c.deref.ensures.value in (
       c.args.start.space,
-      led c.args.start.depth c.in_ok-own.space.depth c.args.start.space c.in_ok-own.own.items c.deref-10.result.now
+      led c.args.start.depth c.in_ok-own.space.depth c.args.start.space c.in_ok-own.own.items c.deref-8.result.now
           c.in_ok-own.space.space c.in_ok-own.ensures.depth listed c.in_ok-own.ensures.leads,
     )
 
 -- a page at whose base no change begins was there at the start
 stayed : (depth : Depth) (start space : Space) (own sorted : List PlacedChange) → IsPermutation own sorted
-    → LeadsTo depth start (map (λ (each : PlacedChange). each.change) own) space → HasStayed sorted start space
-stayed depth start space own sorted same leads = λ page holds none.
+    → LeadsTo depth start (map (λ (each : PlacedChange). each.change) own) space → (page : Page)
+    → Holds space page → (HasOwn sorted page → ⊥) → Holds start page
+stayed depth start space own sorted same leads page holds none =
     still_there depth start (map (λ (each : PlacedChange). each.change) own) space leads page
     (λ change has begins.
     let (placed, listed, is) = map_contains (λ (each : PlacedChange). each.change) own change has in
@@ -87,42 +95,40 @@ stayed depth start space own sorted same leads = λ page holds none.
     holds
 
 -- the columns are those of a segment that goes on behind a run, and those of what the run left
-followed_by : (run : Option Run) (start : Space) (segment : Recording) (tail : Tail) (own : List PlacedChange) (history : History) (levels : List History)
-    → HasCleanLog segment → AreChanges start segment own → IsPermutation own history.changes.items → AreLevels tail.changes.items tail.levels.items
-    → levels ≡ tail.levels.items → IsTailOf run tail → GoesOn run segment start → IsFollowed run start segment history levels
-followed_by run start segment tail own history levels clean are same left is of_tail goes_on = record {
-  orderly = clean_is_orderly segment clean;
+abbrev behind : (run : Option Run) {start : Space} {segment : Recording} {own : List PlacedChange} {places : ℕ} (tail : Tail) (history : History)
+    (space : BoundedSpace) → IsTailOf run tail → GoesOn run segment start → AreChanges start segment own → IsPermutation own history.changes.items
+    → AreLevels tail.changes.items tail.levels.items → space.space ≡ space_from start segment segment.log → places ≡ length segment.log
+    → Behind (record { history = history; earlier = tail.levels; space = space; places = places })
+behind run {start} {segment} {own} tail history space of_tail goes_on are same left whole many = record {
+  before = run;
+  start = start;
+  segment = segment;
   goes_on = goes_on;
   own = permuted start segment own history.changes.items same are;
-  earlier = subst (λ (ls : List History). AreOfRun run (left_in ls)) (sym is)
-      (of_run run tail left.placed (left_in tail.levels.items) of_tail left.are (levels_permuted left.placed tail.levels.items left.cover));
+  earlier = of_run run tail left.placed (left_in tail.levels.items) of_tail left.are (levels_permuted left.placed tail.levels.items left.cover);
+  space = whole;
+  places = many;
 }
 
 pub returns-clause-finds : goal.returns-clause-finds
-returns-clause-finds c = λ run of_tail goes_on clean.
-    c.in_ok-stale.ensures.finds run c.args.start.space c.args.segment.now
-    (followed_by run c.args.start.space c.args.segment.now c.args.tail c.in_ok-own.own.items c.in_ok-history.history c.deref-4.result.now clean
-    (c.in_ok-own.ensures.changes clean) c.in_ok-history.ensures.same c.requires.sound.1 c.deref-4.ensures.value of_tail goes_on)
-    (c.in_ok-own.ensures.space clean) (ap length c.log.ensures.reads)
+returns-clause-finds c = λ run of_tail goes_on clean. c.in_ok-stale.ensures.finds
+    (behind run c.args.tail c.in_ok-history.history c.in_ok-own.space of_tail goes_on (c.in_ok-own.ensures.changes clean) c.in_ok-history.ensures.same
+    c.requires.sound.1 (c.in_ok-own.ensures.space clean) (ap length c.log.ensures.reads))
 
 pub returns-clause-excuses : goal.returns-clause-excuses
-returns-clause-excuses c = λ run of_tail goes_on clean.
-    c.in_ok-stale.ensures.excuses run c.args.start.space c.args.segment.now
-    (followed_by run c.args.start.space c.args.segment.now c.args.tail c.in_ok-own.own.items c.in_ok-history.history c.deref-4.result.now clean
-    (c.in_ok-own.ensures.changes clean) c.in_ok-history.ensures.same c.requires.sound.1 c.deref-4.ensures.value of_tail goes_on)
-    (c.in_ok-own.ensures.space clean) (ap length c.log.ensures.reads)
+returns-clause-excuses c = λ run of_tail goes_on clean. c.in_ok-stale.ensures.excuses
+    (behind run c.args.tail c.in_ok-history.history c.in_ok-own.space of_tail goes_on (c.in_ok-own.ensures.changes clean) c.in_ok-history.ensures.same
+    c.requires.sound.1 (c.in_ok-own.ensures.space clean) (ap length c.log.ensures.reads))
 
 pub beside_if-requires : goal.beside_if-requires
 beside_if-requires c = rw c.deref-3.ensures.value c.in_ok-own.ensures.numbered
 
 pub returns-clause-reaches : goal.returns-clause-reaches
-returns-clause-reaches c = λ run of_tail goes_on clean.
-    c.in_ok-reachable.ensures.finds run c.args.start.space c.args.segment.now
-    (followed_by run c.args.start.space c.args.segment.now c.args.tail c.in_ok-own.own.items c.in_ok-history.history c.deref-5.result.now clean
-    (c.in_ok-own.ensures.changes clean) c.in_ok-history.ensures.same c.requires.sound.1 c.deref-5.ensures.value of_tail goes_on)
-    (c.in_ok-own.ensures.space clean) (ap length c.log.ensures.reads)
+returns-clause-reaches c = λ run of_tail goes_on clean. c.in_ok-reachable.ensures.finds
+    (behind run c.args.tail c.in_ok-history.history c.in_ok-own.space of_tail goes_on (c.in_ok-own.ensures.changes clean) c.in_ok-history.ensures.same
+    c.requires.sound.1 (c.in_ok-own.ensures.space clean) (ap length c.log.ensures.reads))
     (pages_of c.args.tail c.args.start.space (index_of_tail run c.args.start.space c.args.segment.now c.args.tail goes_on of_tail))
-    (listed_of c.args.tail c.args.start.space c.deref-6.result.now c.deref-6.ensures.value
+    (listed_of c.args.tail c.args.start.space c.deref-4.result.now c.deref-4.ensures.value
     (index_of_tail run c.args.start.space c.args.segment.now c.args.tail goes_on of_tail))
     (stayed c.args.start.depth c.args.start.space c.in_ok-own.space.space c.in_ok-own.own.items c.in_ok-history.history.changes.items
     c.in_ok-history.ensures.same c.in_ok-own.ensures.leads)
@@ -137,20 +143,17 @@ returns-clause-tail c = λ run of_tail goes_on clean.
     let few : length segment.events < 4294967295 = let most = c.log.ensures.in_range.few_events in omega (arith, most) in
     let rises = c.in_ok-own.ensures.by_place in
     let are = c.in_ok-own.ensures.changes clean in
-    let lefts : c.deref-7.result.now ≡ map left_of own = c.deref-7.ensures.value ∙ c.in_ok-lefts.ensures ∙ ap (map left_of) c.deref-2.ensures.value in
-    let then : c.deref-9.result.now ≡ map left_of own = c.deref-9.ensures.value ∙ c.in_ok-lefts.ensures ∙ ap (map left_of) c.deref-2.ensures.value in
+    let lefts : c.deref-5.result.now ≡ map left_of own = c.deref-5.ensures.value ∙ c.in_ok-lefts.ensures ∙ ap (map left_of) c.deref-2.ensures.value in
+    let then : c.deref-7.result.now ≡ map left_of own = c.deref-7.ensures.value ∙ c.in_ok-lefts.ensures ∙ ap (map left_of) c.deref-2.ensures.value in
     let looks = subst (λ (xs : List Left). KeepLooks (tail.changes.items ++ xs) found.changes.items) lefts c.in_ok-changes.ensures.looks in
     let has = index_of_tail run start segment tail goes_on of_tail in
-    let levels = subst (λ (ls : List History). AreLevels tail.changes.items ls) (sym c.deref-5.ensures.value) c.requires.sound.1 in
-    let followed = followed_by run start segment tail own c.in_ok-history.history c.deref-5.result.now clean are c.in_ok-history.ensures.same
-    c.requires.sound.1 c.deref-5.ensures.value of_tail goes_on in
-    let open_so = c.in_ok-reachable.ensures.listed run start segment followed (c.in_ok-own.ensures.space clean) (ap length c.log.ensures.reads)
-    (listed_of tail start c.deref-6.result.now c.deref-6.ensures.value has) in
-    let left_so = indexes_left tail.changes.items c.deref-5.result.now levels start segment own are rises few c.deref-9.result.now then
-    c.in_ok-reachable.index open_so in
-    let kept = subst (λ (xs : List Left). KeepLooks (tail.changes.items ++ c.deref-9.result.now) xs) (sym c.deref-8.ensures.value)
+    let b = behind run tail c.in_ok-history.history c.in_ok-own.space of_tail goes_on are c.in_ok-history.ensures.same c.requires.sound.1
+    (c.in_ok-own.ensures.space clean) (ap length c.log.ensures.reads) in
+    let open_so = c.in_ok-reachable.ensures.listed b (listed_of tail start c.deref-4.result.now c.deref-4.ensures.value has) in
+    let left_so = indexes_left tail.changes.items b c.requires.sound.1 own are rises few c.deref-7.result.now then c.in_ok-reachable.index open_so in
+    let kept = subst (λ (xs : List Left). KeepLooks (tail.changes.items ++ c.deref-7.result.now) xs) (sym c.deref-6.ensures.value)
     (subst (λ (xs : List Left). KeepLooks (tail.changes.items ++ xs) found.changes.items) (sym then) looks) in
-    let listed = subst (λ (xs : List Left). IfSome c.in_ok-index.index (λ i. AreListed (IsLeft xs) i.lingering i.gone)) c.deref-8.ensures.value
+    let listed = subst (λ (xs : List Left). IfSome c.in_ok-index.index (λ i. AreListed (IsLeft xs) i.lingering i.gone)) c.deref-6.ensures.value
     (c.in_ok-index.ensures.listed tail.changes.items kept left_so) in
     let pages = c.in_ok-index.ensures.pages c.in_ok-own.space.space (c.in_ok-reachable.ensures.index start (pages_of tail start has)
     (stayed c.args.start.depth start c.in_ok-own.space.space own c.in_ok-history.history.changes.items c.in_ok-history.ensures.same
@@ -164,8 +167,8 @@ pub returns-clause-start : goal.returns-clause-start
 returns-clause-start c =
     let start = c.args.start in
     let space = c.in_ok-own.space in
-    let listed = c.deref-10.ensures.value ∙ c.in_ok-done.ensures ∙ ap (map (λ (each : PlacedChange). each.change)) c.deref.ensures.value in
-    c.in_ok-start.ensures start.space (led start.depth space.depth start.space c.in_ok-own.own.items c.deref-10.result.now space.space
+    let listed = c.deref-8.ensures.value ∙ c.in_ok-done.ensures ∙ ap (map (λ (each : PlacedChange). each.change)) c.deref.ensures.value in
+    c.in_ok-start.ensures start.space (led start.depth space.depth start.space c.in_ok-own.own.items c.deref-8.result.now space.space
     c.in_ok-own.ensures.depth listed c.in_ok-own.ensures.leads)
     ∙ same_bounded (record space { space = start.space }) start c.in_ok-own.ensures.depth c.in_ok-own.ensures.limit refl
 

@@ -6,22 +6,18 @@ use Rattle.nr_touch.proofs.Walked.{last_within}
 use Rattle.nr_touch.proofs.touches.stale.is_of_lagging.Goals as goal
 
 pub returns-then-not-is_fault_of_none : goal.returns-then-not-is_fault_of_none
-returns-then-not-is_fault_of_none c = λ start trace are whole places. no (λ it.
-    not_from_Decides _ c.is_fault_of_none.ensures c.if-not-is_fault_of_none.true it.0)
+returns-then-not-is_fault_of_none c = λ b. no (λ it. not_from_Decides _ c.is_fault_of_none.ensures c.if-not-is_fault_of_none.true it.0)
 
 pub returns-then-most-known : goal.returns-then-most-known
-returns-then-most-known c = λ start trace are whole places. no (λ it.
-    let (low, within) = within_lagging start trace c.args.history.now.changes.items are c.args.touch.now c.last_allowed-last.result c.args.places places
-    c.last_allowed-last.ensures it in
+returns-then-most-known c = λ b. no (λ it.
+    let (low, within) = within_lagging b c.args.touch.now c.last_allowed-last.result c.last_allowed-last.ensures it in
     omega (arith, low, c.if-most-known.true, c.from-most.ensures))
 
 pub returns : goal.returns
-returns c = λ start trace are whole places.
-    let changes = c.args.history.now.changes.items in
+returns c = λ b.
     let touch = c.args.touch.now in
     let last = c.last_allowed-last.result in
     let ahead = c.last_allowed-last.ensures in
-    Decides-like _ (lagging_within start trace changes are touch last c.args.places places ahead (c.is_fault_of_none.ensures.0 c.if-not-is_fault_of_none.false))
-    (λ it. (within_lagging start trace changes are touch last c.args.places places ahead it).1)
-    (c.is_answered_within.ensures start trace are whole (omega (arith, c.if-most-known.false, c.from-most.ensures))
-    (last_within start trace changes are touch last c.args.places places ahead))
+    Decides-like _ (lagging_within b touch last ahead (c.is_fault_of_none.ensures.0 c.if-not-is_fault_of_none.false))
+    (λ it. (within_lagging b touch last ahead it).1) (c.is_answered_within.ensures b (omega (arith, c.if-most-known.false, c.from-most.ensures))
+    (last_within b touch last ahead))
