@@ -61,7 +61,7 @@ VALUE(NRVS_APART, 20);
 VALUE(NRVS_PINNED, 21);
 
 /* Flushes: `flush_numbers` there; the most stores and frames: `MOST_STORES`, `MOST_UNLINKED` of crates/vs_plan/src/plan.rt; attributes:
- * bits 3 to 11 and 52 to 62, `AreBits` of crates/vs_plan/specs/Bits.antt.
+ * bits 3 to 11 and 52 to 62, `AreBits` of crates/vs_types/specs/Bits.antt.
  */
 VALUE(NRVS_FLUSH_NOTHING, 0);
 VALUE(NRVS_FLUSH_PAGE, 1);

@@ -26,7 +26,6 @@ pub mod Bounds
 pub mod BadUnits
 pub mod TwoEnds
 pub mod Walked
-pub mod ReservedBits
 pub mod RightFields
 pub mod BadFields
 pub mod DumpsFound

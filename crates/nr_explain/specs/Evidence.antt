@@ -14,7 +14,8 @@ use Rattle.nr_trace.specs.Orders.{answer_in, before, floor, known_by, recorded_o
 use Rattle.nr_trace.specs.declared.fault.Fault.{Fault}
 use Rattle.nr_trace.specs.declared.fault.Fault.TheVariants as faults
 use Rattle.nr_explain.specs.Facts.{IsCallOf, IsReplyOf, IsFirstReplyTo, response, entries_read, looks_from, IsLastChangeFrom, address_about, IsPath}
-use Rattle.nr_explain.specs.Facts.{HasReservedWord, IsLowestReservedBit}
+use Rattle.nr_explain.specs.Facts.{HasReservedWord}
+use Rattle.vs_types.specs.Bits.{IsLowestReservedBit}
 use Rattle.nr_explain.specs.Nearest.{IsMemoryOf, IsNearest}
 use Rattle.nr_explain.specs.declared.trace.evidence.TableEntry.{TableEntry}
 use Rattle.nr_explain.specs.declared.trace.evidence.OpenCalls.{OpenCalls}

@@ -1,10 +1,9 @@
 -- Facts of a trace that evidence is made of.
-use Rattle.std.specs.Prelude.{◌≡◌, ◌≢◌, ℕ, zero, suc, ◌+◌, ◌-◌, ◌*◌, ◌<◌, ◌≤◌, List, [], ◌∷◌, length, take, slice_get, slice_index, MatchBool, Option, Some}
+use Rattle.std.specs.Prelude.{◌≡◌, ◌≢◌, ℕ, zero, suc, ◌+◌, ◌-◌, ◌<◌, ◌≤◌, List, [], ◌∷◌, length, take, slice_get, slice_index, Option, Some}
 use Rattle.std.specs.Prelude.{None, option_map}
 use Rattle.std.specs.FinMap as finite
-use Rattle.std.specs.Int.{bit_at}
 use Rattle.vs_types.specs.Depth.{index_at}
-use Rattle.vs_types.specs.Entry.{is_leaf, meaning}
+use Rattle.vs_types.specs.Entry.{meaning}
 use Rattle.vs_types.specs.Space.{Space}
 use Rattle.vs_types.specs.Step.{look}
 use Rattle.vs_types.specs.declared.answer.Answer.{Answer}
@@ -130,14 +129,3 @@ pub record HasReservedWord (memory : Memory) (step : TableEntry) : Type 0 where
   pub within : step.index < length words
   pub read : slice_index words step.index ≡ step.word
   pub reserved : meaning step.level step.word ≡ entry.Reserved
-
--- the bit is set in the word, and reserved in an entry of this level. In one that maps a page it is any from 13 to below the bits of an
--- address in the page, in one that maps none bit 7
-pub record IsReservedBit (level word bit : ℕ) : Type 0 where
-  pub set : bit_at word bit ≡ 1
-  pub reserved : MatchBool (is_leaf level word) ((13 ≤ bit) × (bit < 3 + 9 * level)) (bit ≡ 7)
-
--- it is the lowest such bit of the word
-pub record IsLowestReservedBit (level word bit : ℕ) : Type 0 where
-  pub is : IsReservedBit level word bit
-  pub lowest : (other : ℕ) → IsReservedBit level word other → bit ≤ other

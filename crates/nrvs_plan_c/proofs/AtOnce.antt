@@ -7,7 +7,7 @@ use Rattle.vs_walk.specs.Memory.{Memory}
 use Rattle.vs_plan.specs.declared.request.Request.{Request}
 use Rattle.vs_plan.specs.declared.request.Request.TheVariants.{Map}
 use Rattle.vs_plan.specs.declared.target.Target as targets
-use Rattle.vs_plan.specs.Bits.{AreBits}
+use Rattle.vs_types.specs.Bits.{AreBits}
 use Rattle.vs_plan.specs.Request.{IsRequest, request_fault}
 use Rattle.nrvs_plan_c.specs.declared.kept.Plan.{Plan}
 use Rattle.nrvs_plan_c.specs.declared.kept.Target.{Target}

@@ -24,7 +24,7 @@ use Rattle.vs_plan.specs.Way.{IsWay, Begins, Leads}
 use Rattle.vs_plan.specs.inside.Ended.{HasEnded, IsAtEnd}
 use Rattle.vs_plan.proofs.Ways.{way_table}
 use Rattle.nrvs_plan_c.specs.declared.end.End.{End}
-use Rattle.nrvs_plan_c.specs.Kept.{rights_at}
+use Rattle.vs_types.specs.Bits.{rights_at}
 use Rattle.nrvs_plan_c.specs.inside.End.{IsEndOf}
 
 pub four_levels : (depth : Depth) → 4 ≤ levels depth

@@ -16,7 +16,7 @@ use Rattle.vs_plan.specs.declared.plan.Reply.TheVariants as replies
 use Rattle.vs_plan.specs.declared.request.Request.{Request}
 use Rattle.vs_plan.specs.declared.request.Request.TheVariants.{Map, Unmap, Protect, Ask, Remap}
 use Rattle.vs_plan.specs.declared.target.Target.{Target}
-use Rattle.vs_plan.specs.Bits.{bits_in, page_word, with_address, with_rights}
+use Rattle.vs_types.specs.Bits.{bits_in, page_word, rights_at, with_address, with_rights}
 use Rattle.vs_plan.specs.Changes.{phys_refusal}
 use Rattle.vs_plan.specs.Request.{IsRequest, address_of, lowest_of}
 use Rattle.vs_plan.specs.Right.{IsRight}
@@ -30,9 +30,9 @@ use Rattle.vs_plan.proofs.Remapping as remaps
 use Rattle.vs_plan.proofs.RunWords.{leaf_of}
 use Rattle.vs_plan.proofs.Stored.{even_absent}
 use Rattle.vs_plan.proofs.Unmapping.{unmap_right}
-use Rattle.vs_plan.proofs.Words.{page_reads}
+use Rattle.vs_types.proofs.BitWords.{page_reads}
 use Rattle.nrvs_plan_c.specs.declared.end.End.{End}
-use Rattle.nrvs_plan_c.specs.Kept.{page_in, rights_at, rights_in}
+use Rattle.nrvs_plan_c.specs.Kept.{page_in, rights_in}
 use Rattle.nrvs_plan_c.specs.inside.End.{IsEndOf, Stays}
 use Rattle.nrvs_plan_c.specs.inside.Written.{store_of}
 use Rattle.nrvs_plan_c.proofs.Ends.{at_end, gone, has_ended}

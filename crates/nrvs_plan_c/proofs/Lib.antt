@@ -4,7 +4,6 @@ mod MadeAgain
 mod Ends
 mod EndsRight
 mod EndsTold
-mod AllowedBits
 mod Walking
 mod AtOnce
 mod CallKinds

@@ -10,7 +10,8 @@ use Rattle.vs_plan.specs.declared.plan.Plan as plans
 use Rattle.vs_plan.specs.declared.plan.Reply as outcomes
 use Rattle.vs_plan.specs.declared.plan.Reply.TheVariants as replies
 use Rattle.vs_plan.specs.declared.plan.Store.{Store}
-use Rattle.vs_plan.specs.Again.{HasFlagsSet, IsPlanAgain, flags_into, new_again, told_again, with_flags_of, bits_again as bits_made, fill_again as fill_made}
+use Rattle.vs_plan.specs.Again.{IsPlanAgain, new_again, told_again, bits_again as bits_made, fill_again as fill_made}
+use Rattle.vs_types.specs.Bits.{HasFlagsSet, flags_into, with_flags_of}
 use Rattle.vs_plan.specs.Answered.{Changes}
 use Rattle.nrvs_plan_c.specs.declared.kept.Plan.{Plan}
 use Rattle.nrvs_plan_c.specs.declared.told.Reply.{Reply}

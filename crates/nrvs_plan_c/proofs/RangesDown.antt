@@ -28,7 +28,8 @@ use Rattle.vs_range.specs.Planner.{IsMap, IsInRun, IsPageAt, IsRanged, IsSeenPag
 use Rattle.vs_range.proofs.Seeing.{descended}
 use Rattle.nrvs_plan_c.specs.declared.range.Run.{Run}
 use Rattle.nrvs_plan_c.specs.Direct.{HasNoneBeyond}
-use Rattle.nrvs_plan_c.specs.Kept.{phase_in, planner_in, request_in, rights_at, target_in}
+use Rattle.nrvs_plan_c.specs.Kept.{phase_in, planner_in, request_in, target_in}
+use Rattle.vs_types.specs.Bits.{rights_at}
 use Rattle.nrvs_plan_c.specs.Range.{HasBegunRange, IsSoundRange, KeepsRange, TakesPageOf, range_in}
 use Rattle.nrvs_plan_c.specs.RangeIn.{StandsAt}
 use Rattle.nrvs_plan_c.specs.inside.Stepped.{FollowsLinkOf}

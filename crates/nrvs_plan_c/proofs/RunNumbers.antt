@@ -4,7 +4,7 @@ use Rattle.std.specs.Prelude.{cond}
 use Rattle.std.specs.Int.Bits.{bit_and, and_zero_r}
 use Rattle.std.proofs.lemmas.Nat.{and_block, and_mask}
 use Rattle.vs_types.specs.declared.page.Rights.{Rights}
-use Rattle.vs_plan.specs.Bits.{with_rights, unflagged}
+use Rattle.vs_types.specs.Bits.{unflagged, with_rights}
 
 -- two parts of a word, and of a mask
 parted : (k word high low : ℕ) → low < 2 ^ k → word / 2 ^ k * 2 ^ k + word % 2 ^ k ≡ word → word % 2 ^ k < 2 ^ k

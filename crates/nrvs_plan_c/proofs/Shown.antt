@@ -19,7 +19,8 @@ use Rattle.vs_plan.proofs.Requests.{low_request}
 use Rattle.nrvs_plan_c.specs.declared.end.End.{End}
 use Rattle.nrvs_plan_c.specs.declared.kept.Met.{Met}
 use Rattle.nrvs_plan_c.specs.declared.kept.Plan.{Plan}
-use Rattle.nrvs_plan_c.specs.Kept.{IsSound, IsWaiting, phase_in, planner_in, request_in, rights_at, target_at, target_in}
+use Rattle.nrvs_plan_c.specs.Kept.{IsSound, IsWaiting, phase_in, planner_in, request_in, target_at, target_in}
+use Rattle.vs_types.specs.Bits.{rights_at}
 use Rattle.nrvs_plan_c.specs.Next.{IsAtRoot, IsNextOf, IsPlanned, status_in}
 use Rattle.nrvs_plan_c.specs.inside.End.{IsEndOf, IsMade}
 use Rattle.nrvs_plan_c.proofs.Ends.{four_levels}

@@ -21,7 +21,8 @@ use Rattle.vs_plan.proofs.Stored.{found_word}
 use Rattle.vs_plan.proofs.Ways.{way_on}
 use Rattle.nrvs_plan_c.specs.declared.kept.Words.{Words}
 use Rattle.nrvs_plan_c.specs.Direct.{HasFramesWithin}
-use Rattle.nrvs_plan_c.specs.Kept.{IsWaiting, depth_in, rights_at}
+use Rattle.nrvs_plan_c.specs.Kept.{IsWaiting, depth_in}
+use Rattle.vs_types.specs.Bits.{rights_at}
 use Rattle.nrvs_plan_c.specs.Next.{status_in}
 
 pub way_begins : (levels : ℕ) → (levels ≡ 4) ⊎ (levels ≡ 5) → {memory : Memory} {root address : ℕ} (allowed : ℕ) → rights_at allowed ≡ all_rights

@@ -1,6 +1,6 @@
 -- The planner that is kept in C's struct between two calls.
-use Rattle.std.specs.Prelude.{ℕ, ◌+◌, ◌==◌, ◌/◌, ◌%◌, ◌≤◌, ◌||◌, Bool, min, nat_eq, take, if◌then◌else◌}
-use Rattle.std.specs.Int.{bit_at}
+use Rattle.std.specs.Prelude.{ℕ, ◌+◌, ◌/◌, ◌%◌, ◌≤◌, ◌||◌, Bool, min, nat_eq, take, if◌then◌else◌}
+use Rattle.vs_types.specs.Bits.{rights_at}
 use Rattle.vs_types.specs.Depth.{levels}
 use Rattle.vs_types.specs.declared.depth.Depth.{Depth}
 use Rattle.vs_types.specs.declared.depth.Depth.TheVariants.{Four, Five}
@@ -31,10 +31,6 @@ size_in code = if nat_eq code 0 then K4 else if nat_eq code 1 then M2 else G1
 -- the rights of a code
 abbrev pub rights_in : ℕ → Rights
 rights_in code = record { write = nat_eq (code % 2) 1; user = nat_eq (code / 2 % 2) 1; exec = nat_eq (code / 4 % 2) 1 }
-
--- the rights that bits 1 for writes, 2 for user accesses and 63 for fetches allow
-abbrev pub rights_at : ℕ → Rights
-rights_at bits = record { write = bit_at bits 1 == 1; user = bit_at bits 2 == 1; exec = bit_at bits 63 == 1 }
 
 -- how far a planner is, by its code
 abbrev pub phase_in : ℕ → Phase

@@ -6,7 +6,8 @@ use Rattle.vs_types.specs.declared.answer.Answer.TheVariants as answers
 use Rattle.vs_plan.specs.declared.plan.Fill.{Fill}
 use Rattle.vs_plan.specs.declared.plan.Flush.{Flush}
 use Rattle.vs_plan.specs.declared.plan.Flush.TheVariants as flushes
-use Rattle.vs_plan.specs.Again.{IsPlanAgain, flags_into, with_flags_of}
+use Rattle.vs_plan.specs.Again.{IsPlanAgain}
+use Rattle.vs_types.specs.Bits.{flags_into, with_flags_of}
 use Rattle.vs_plan.specs.Answered.{Changes}
 use Rattle.vs_plan.specs.declared.plan.Plan as plans
 use Rattle.vs_plan.specs.declared.plan.Reply as outcomes

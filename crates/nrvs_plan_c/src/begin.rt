@@ -9,10 +9,10 @@ ghost use Rattle.nrvs_plan_c.specs.Kept.{depth_in, request_in, target_at, target
 ghost use Rattle.nrvs_plan_c.specs.Next.{HasBegun, IsAtRoot};
 ghost use Rattle.nrvs_plan_c.specs.Status.{begun_status, target_status};
 
-use crate::allowed::all_allowed;
 use crate::codes::{BRIEF, DESCENT, depth_in};
 use crate::kept::{Call, Plan, Target, Way};
 use crate::status::{BAD_LEVELS, PHYS_BITS, SEE, status_of};
+use vs_types::all_allowed;
 
 /// A level above that of each root.
 const ABOVE_ROOTS: u32 = 6;

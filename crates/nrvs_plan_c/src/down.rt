@@ -11,11 +11,9 @@ ghost use Rattle.vs_plan.specs.Shown.{IsShown};
 ghost use Rattle.nrvs_plan_c.specs.declared.codes.TheConstants.{DESCENT};
 ghost use Rattle.nrvs_plan_c.specs.Kept.{IsSound, planner_in, request_in};
 
-use crate::allowed::narrowed;
 use crate::kept::{Call, Plan};
-use crate::walk::is_link;
 use vs_plan::FrameWords;
-use vs_types::FRAME_WORDS;
+use vs_types::{FRAME_WORDS, is_link, narrowed};
 
 /// Goes on to the table to which this word leads, which was read of these words, where the way doesn't end here, and no other word of the
 /// table is asked for. Whether it did: else nothing is changed.

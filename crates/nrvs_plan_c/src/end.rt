@@ -7,20 +7,21 @@ ghost use Rattle.vs_walk.specs.Memory.{Memory};
 ghost use Rattle.vs_plan.specs.declared.request.Request.{Request};
 ghost use Rattle.vs_plan.specs.declared.target.Target as targets;
 ghost use Rattle.vs_types.specs.declared.page.Size.TheVariants.{K4};
-ghost use Rattle.vs_plan.specs.Bits.{AreBits, bits_in};
+ghost use Rattle.vs_types.specs.Bits.{AreBits, bits_in, rights_at};
 ghost use Rattle.vs_plan.specs.Request.{IsRequest};
-ghost use Rattle.nrvs_plan_c.specs.Kept.{page_in, rights_at, rights_in};
+ghost use Rattle.nrvs_plan_c.specs.Kept.{page_in, rights_in};
 ghost use Rattle.nrvs_plan_c.specs.Next.{IsPlanned};
 ghost use Rattle.nrvs_plan_c.specs.inside.End.{IsEndOf, IsMade, IsRightFor, Stays, changed_reply};
 ghost use Rattle.nrvs_plan_c.specs.inside.Written.{HasNone, HasStore};
 
-use crate::allowed::{code_at, narrowed, rights_at};
 use crate::codes::rights_in;
 use crate::kept::Plan;
 use crate::told::Reply;
 use crate::written::{write_none, write_store};
-use vs_plan::{bits_in, ends_beyond, page_word, permits, with_address, with_rights};
-use vs_types::{Page, Size};
+use vs_plan::ends_beyond;
+use vs_types::{
+    Page, Size, bits_in, narrowed, page_word, rights_at, with_address, with_rights,
+};
 
 /// The end of a way in a table of level 1.
 #[derive(Clone, Copy)]
@@ -55,7 +56,7 @@ impl End {
     fn code(self) -> u8
         ensures { result ≡ rights_code (intersection (rights_at self.allowed) (rights_of self.word)) }
     {
-        code_at(narrowed(self.allowed, self.word))
+        rights_at(narrowed(self.allowed, self.word)).code()
     }
 }
 
@@ -75,7 +76,7 @@ pub(crate) fn end_map(plan: &mut Plan, end: End, base: u64, physical: u64, right
     }
     let rights = rights_in(rights);
     let above = rights_at(end.allowed);
-    if !permits(above, rights) {
+    if !above.permits(rights) {
         let narrow = Reply::with(12, 0);
         return write_none(plan, narrow, 0);
     }
@@ -125,7 +126,7 @@ pub(crate) fn end_protect(plan: &mut Plan, end: End, base: u64, rights: u8)
     }
     let rights = rights_in(rights);
     let above = rights_at(end.allowed);
-    if !permits(above, rights) {
+    if !above.permits(rights) {
         let narrow = Reply::with(12, 0);
         return write_none(plan, narrow, 0);
     }
@@ -165,7 +166,7 @@ pub(crate) fn end_remap(
     }
     let rights = rights_in(rights);
     let above = rights_at(end.allowed);
-    if !permits(above, rights) {
+    if !above.permits(rights) {
         let narrow = Reply::with(12, 0);
         return write_none(plan, narrow, 0);
     }

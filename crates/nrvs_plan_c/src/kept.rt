@@ -4,12 +4,11 @@ ghost use Rattle.vs_plan.specs.declared.plan.TheConstants.{MOST_STORES};
 ghost use Rattle.vs_plan.specs.Target.{highest_link};
 ghost use Rattle.nrvs_plan_c.specs.Kept.{planner_in, request_in, target_at, target_in};
 
-use crate::allowed::{allowed_of, rights_at};
 use crate::codes::{BRIEF, code_of, depth_in, phase_in, rights_in, size_in};
 use crate::told::Reply;
 use arrayvec::ArrayVec;
 use vs_plan::{Fill, MOST_STORES, MOST_UNLINKED, Planner, Request, Store};
-use vs_types::{FRAME_WORDS, Page};
+use vs_types::{FRAME_WORDS, Page, allowed_of, rights_at};
 
 /// The page table that a plan is for, as C has it.
 #[repr(C)]

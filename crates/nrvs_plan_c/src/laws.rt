@@ -1,6 +1,6 @@
 //! What holds of all plans in numbers. The function does nothing: its clause says it.
 ghost use Rattle.std.specs.Prelude.{◌<◌, ℕ};
-ghost use Rattle.vs_plan.specs.Again.{HasFlagsSet};
+ghost use Rattle.vs_types.specs.Bits.{HasFlagsSet};
 ghost use Rattle.nrvs_plan_c.specs.declared.kept.Plan.{Plan};
 ghost use Rattle.nrvs_plan_c.specs.Told.{IsMadeAgain, store_at};
 

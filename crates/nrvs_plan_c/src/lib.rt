@@ -4,7 +4,6 @@
 //! A call allocates nothing, and keeps no pointer once it has returned.
 #![tactic(auto)]
 
-mod allowed;
 mod at_once;
 mod begin;
 mod codes;

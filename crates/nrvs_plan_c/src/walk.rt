@@ -1,7 +1,5 @@
 //! The way of an address down to a table of level 1, over frames that lie one after another in memory.
 ghost use Rattle.std.specs.Prelude.{◌≡◌, ◌≢◌, ◌+◌, ◌-◌, ◌/◌, ◌%◌, ◌<◌, ◌≤◌, ◌^◌, ℕ, IfNone, IfSome, IsTrue, length, slice_index, slice_index_or};
-ghost use Rattle.vs_types.specs.Entry.{meaning, rights_of};
-ghost use Rattle.vs_types.specs.declared.entry.Meaning.{Meaning};
 ghost use Rattle.vs_types.specs.declared.frame.TheConstants.{FRAME_WORDS};
 ghost use Rattle.vs_walk.specs.Memory.{Memory};
 ghost use Rattle.vs_plan.specs.Target.{frames_end};
@@ -9,11 +7,10 @@ ghost use Rattle.nrvs_plan_c.specs.Direct.{HasFramesWithin, IsElsewhere};
 ghost use Rattle.nrvs_plan_c.specs.Kept.{target_of};
 ghost use Rattle.nrvs_plan_c.specs.inside.End.{IsAskable, IsEndOf};
 
-use crate::allowed::{all_allowed, narrowed};
 use crate::codes::depth_in;
 use crate::end::End;
 use crate::kept::{Target, Words};
-use vs_types::{FRAME_WORDS, index_at};
+use vs_types::{FRAME_WORDS, all_allowed, index_at, is_link, narrowed};
 
 /// The end of the way of an address, where target and address may be asked for, and it leads to a table of level 1 by frames that all
 /// lie here.
@@ -80,14 +77,6 @@ fn are_within(frames: &[Words], first: u64, phys_bits: u32) -> bool
 {
     let end = 1u64 << (phys_bits - 12);
     first <= end && frames.len() as u64 <= end - first
-}
-
-/// Whether a word above level 1 leads to a table.
-pub(crate) fn is_link(word: u64) -> bool
-    ensures { IsTrue result → (level : ℕ) → 2 ≤ level
-        → meaning level word ≡ Meaning.Table (word % 2 ^ 52 / 2 ^ 12) (rights_of word) }
-{
-    word % 2 == 1 && word / 128 % 2 == 0
 }
 
 /// The words of the frame of this number, where it lies here.

@@ -28,8 +28,8 @@ use Rattle.vs_plan.specs.declared.plan.Store.{Store}
 use Rattle.vs_plan.specs.declared.request.Request.{Request}
 use Rattle.vs_plan.specs.declared.request.Request.TheVariants.{Map, Unmap, Protect, Ask, Remap, Split, Join, Prune, UnmapPart, Collapse}
 use Rattle.vs_plan.specs.declared.target.Target.{Target}
-use Rattle.vs_plan.specs.Again.{HasFlagsSet, IsPlanAgain, TakesTable, bits_again, fill_again, flags_into, new_again, told_again, with_flags_of}
-use Rattle.vs_plan.specs.Bits.{bits_in, flagged, placed, with_address, with_rights}
+use Rattle.vs_plan.specs.Again.{IsPlanAgain, TakesTable, bits_again, fill_again, new_again, told_again}
+use Rattle.vs_types.specs.Bits.{HasFlagsSet, bits_in, flagged, flags_into, placed, with_address, with_flags_of, with_rights}
 use Rattle.vs_plan.specs.Changes.{larger, smaller}
 use Rattle.vs_plan.specs.Premise.{IsPremise}
 use Rattle.vs_plan.specs.Request.{address_of, refusal, stepped}
@@ -47,8 +47,7 @@ use Rattle.vs_plan.proofs.PutAgain.{IsRefilled, IsRewritten, filled_alike, put_m
 use Rattle.vs_plan.proofs.RightAgain.{parts_moved, remap_low}
 use Rattle.vs_plan.proofs.Splitting.{are_bits_in}
 use Rattle.vs_plan.proofs.ToldAgain.{bits_moved, never_done, told_moved, told_stays}
-use Rattle.vs_plan.proofs.Addresses.{cond_most}
-use Rattle.vs_plan.proofs.Words.{times, times_not}
+use Rattle.vs_types.proofs.BitWords.{cond_most, times, times_not}
 
 -- ---- words
 

@@ -26,7 +26,7 @@ use Rattle.vs_plan.specs.declared.planner.Planner.{Planner}
 use Rattle.vs_plan.specs.declared.request.Request.{Request}
 use Rattle.vs_plan.specs.declared.request.Request.TheVariants.{Map, Unmap, Protect, Ask, Remap, Split, Join, Prune, UnmapPart, Collapse}
 use Rattle.vs_plan.specs.declared.target.Target.{Target}
-use Rattle.vs_plan.specs.Bits.{bits_in}
+use Rattle.vs_types.specs.Bits.{bits_in}
 use Rattle.vs_plan.specs.Premise.{IsPremise}
 use Rattle.vs_plan.specs.Request.{address_of, lowest_of, stepped, refusal}
 use Rattle.vs_plan.specs.Right.{IsEntryOf}

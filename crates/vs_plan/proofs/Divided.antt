@@ -24,7 +24,7 @@ use Rattle.vs_plan.specs.declared.planner.Phase.TheVariants as phases
 use Rattle.vs_plan.specs.declared.request.Request.{Request}
 use Rattle.vs_plan.specs.declared.request.Request.TheVariants.{Split, UnmapPart}
 use Rattle.vs_plan.specs.declared.target.Target.{Target}
-use Rattle.vs_plan.specs.Bits.{bits_in}
+use Rattle.vs_types.specs.Bits.{bits_in}
 use Rattle.vs_plan.specs.Changes.{smaller, smallest, split_refusal}
 use Rattle.vs_plan.specs.Planner.{Divides}
 use Rattle.vs_plan.specs.Premise.{IsPremise, IsSpare}

@@ -26,7 +26,7 @@ use Rattle.vs_plan.specs.declared.plan.Reply.TheVariants as replies
 use Rattle.vs_plan.specs.declared.plan.Store.{Store}
 use Rattle.vs_plan.specs.declared.request.Request.TheVariants.{Split}
 use Rattle.vs_plan.specs.declared.target.Target.{Target}
-use Rattle.vs_plan.specs.Bits.{bits_in, page_word}
+use Rattle.vs_types.specs.Bits.{bits_in, page_word}
 use Rattle.vs_plan.specs.Changes.{smaller, smallest, split_refusal}
 use Rattle.vs_plan.specs.Premise.{IsSpare}
 use Rattle.vs_plan.specs.Right.{IsEntryOf, IsMeantBy, OfPage, IsNewTable}

@@ -15,13 +15,12 @@ use Rattle.vs_walk.specs.Memory.{Memory}
 use Rattle.vs_space.specs.Flags.{IsSameButFlags, AreSameButFlags}
 use Rattle.vs_types.proofs.Maps.{get-insert_same, get-insert_other}
 use Rattle.vs_plan.specs.declared.plan.Fill.{Fill}
-use Rattle.vs_plan.specs.Again.{HasFlagsSet, fill_again, flags_into}
-use Rattle.vs_plan.specs.Bits.{bits_in, flagged, page_word, placed}
+use Rattle.vs_plan.specs.Again.{fill_again}
+use Rattle.vs_types.specs.Bits.{HasFlagsSet, bits_in, flagged, flags_into, page_word, placed}
 use Rattle.vs_plan.specs.Stores.{fill_words, filled, stepping, with_gap}
 use Rattle.vs_plan.proofs.OtherFlags.{bits_after, flags_set}
 use Rattle.vs_plan.proofs.Splitting.{are_bits_in}
-use Rattle.vs_plan.proofs.Addresses.{cond_most}
-use Rattle.vs_plan.proofs.Words.{times_not}
+use Rattle.vs_types.proofs.BitWords.{cond_most, times_not}
 
 -- ---- the words
 

@@ -28,8 +28,7 @@ use Rattle.vs_space.proofs.FlaggedWords.{bit_above, flagged_at, flagged_meaning,
 use Rattle.vs_space.proofs.Prunes.{word_in}
 use Rattle.vs_plan.specs.declared.plan.Store.{Store}
 use Rattle.vs_plan.specs.declared.target.Target.{Target}
-use Rattle.vs_plan.specs.Again.{HasFlagsSet, flags_into, with_flags_of}
-use Rattle.vs_plan.specs.Bits.{with_address, with_rights, unflagged}
+use Rattle.vs_types.specs.Bits.{HasFlagsSet, flags_into, unflagged, with_address, with_flags_of, with_rights}
 use Rattle.vs_plan.specs.Premise.{IsSpare, HasOwnWay}
 use Rattle.vs_plan.specs.Answered.{AreLikeBelow, FollowBelow}
 use Rattle.vs_plan.specs.Right.{IsEntryOf, HasWord}

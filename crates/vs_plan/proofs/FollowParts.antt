@@ -8,7 +8,7 @@ use Rattle.vs_types.specs.Page.{bytes_of}
 use Rattle.vs_types.specs.declared.page.Rights.{Rights}
 use Rattle.vs_types.specs.declared.page.Size.TheVariants.{K4, M2}
 use Rattle.vs_types.specs.declared.entry.Meaning.TheVariants as entry
-use Rattle.vs_plan.specs.Bits.{bits_in, unflagged}
+use Rattle.vs_types.specs.Bits.{bits_in, unflagged}
 use Rattle.vs_plan.specs.Changes.{larger}
 use Rattle.vs_plan.specs.Answered.{Follows}
 use Rattle.vs_plan.proofs.Following.{follows_reads, room_of}

@@ -7,8 +7,7 @@ use Rattle.vs_types.specs.declared.entry.Meaning.TheVariants as entry
 use Rattle.vs_walk.proofs.Walks.{leaf_level}
 use Rattle.vs_space.proofs.FlaggedWords.{flagged_meaning}
 use Rattle.vs_space.proofs.Regions.{level_back}
-use Rattle.vs_plan.specs.Again.{HasFlagsSet}
-use Rattle.vs_plan.specs.Bits.{AreBits, unflagged, flagged}
+use Rattle.vs_types.specs.Bits.{AreBits, HasFlagsSet, flagged, unflagged}
 use Rattle.vs_plan.specs.Answered.{Follows}
 use Rattle.vs_plan.proofs.OtherFlags.{flags_set}
 use Rattle.vs_plan.proofs.RunWords.{leaf_parts, leaf_later}

@@ -7,7 +7,8 @@ use Rattle.std.proofs.Math.Seq.{take-length}
 use Rattle.vs_plan.specs.declared.plan.Fill.{Fill}
 use Rattle.vs_plan.specs.declared.plan.Plan.{Plan}
 use Rattle.vs_plan.specs.declared.plan.Store.{Store}
-use Rattle.vs_plan.specs.Again.{HasFlagsSet, IsPlanAgain, bits_again, fill_again, new_again, told_again}
+use Rattle.vs_plan.specs.Again.{IsPlanAgain, bits_again, fill_again, new_again, told_again}
+use Rattle.vs_types.specs.Bits.{HasFlagsSet}
 
 -- stores written back whole
 written_back : (xs ws : List Store) → length ws ≡ length xs → refill (length xs) xs ws ≡ ws

@@ -36,7 +36,7 @@ use Rattle.vs_plan.specs.declared.plan.Reply.TheVariants as replies
 use Rattle.vs_plan.specs.declared.plan.Store.{Store}
 use Rattle.vs_plan.specs.declared.request.Request.TheVariants.{UnmapPart}
 use Rattle.vs_plan.specs.declared.target.Target.{Target}
-use Rattle.vs_plan.specs.Bits.{bits_in, page_word}
+use Rattle.vs_types.specs.Bits.{bits_in, page_word}
 use Rattle.vs_plan.specs.Changes.{part, smaller, split, unmap_each, unmap_part}
 use Rattle.vs_plan.specs.Other.{HasSameTables}
 use Rattle.vs_plan.specs.Premise.{HasOwnWay, IsPremise, IsSpare}

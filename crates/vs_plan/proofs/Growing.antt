@@ -26,7 +26,7 @@ use Rattle.vs_space.proofs.Written.{size_same}
 use Rattle.vs_space.proofs.Reached.{whole_written}
 use Rattle.vs_plan.specs.declared.plan.Store.{Store}
 use Rattle.vs_plan.specs.declared.request.Request.TheVariants.{Map}
-use Rattle.vs_plan.specs.Bits.{page_word}
+use Rattle.vs_types.specs.Bits.{page_word}
 use Rattle.vs_plan.specs.Premise.{IsSpare}
 use Rattle.vs_plan.specs.Right.{IsWritten, AreLinks}
 use Rattle.vs_plan.specs.Shown.{last_frame, EndsAt, frames_of, AreSameIn, IsLone, LeadsToPage, AreFilled}

@@ -38,7 +38,7 @@ use Rattle.vs_plan.specs.declared.plan.Store.{Store}
 use Rattle.vs_plan.specs.declared.planner.Planner.{Planner}
 use Rattle.vs_plan.specs.declared.request.Request.TheVariants.{Join}
 use Rattle.vs_plan.specs.declared.target.Target.{Target}
-use Rattle.vs_plan.specs.Bits.{bits_in, page_word, flagged, unflagged}
+use Rattle.vs_types.specs.Bits.{bits_in, page_word, flagged, unflagged}
 use Rattle.vs_plan.specs.Changes.{larger, join, join_refusal, not_first, unaligned}
 use Rattle.vs_plan.specs.Premise.{IsPremise}
 use Rattle.vs_plan.specs.Request.{address_of, stepped, refusal}
@@ -58,7 +58,7 @@ use Rattle.vs_plan.proofs.Parts.{Parts, due_as, right_as, nothing_right, safe_on
 use Rattle.vs_plan.proofs.Runs.{IsRun}
 use Rattle.vs_plan.proofs.Splitting.{are_bits_in}
 use Rattle.vs_plan.proofs.Ways.{way_table}
-use Rattle.vs_plan.proofs.Words.{page_reads}
+use Rattle.vs_types.proofs.BitWords.{page_reads}
 use Rattle.vs_plan.proofs.Stored.{found_word, used_word}
 use Rattle.vs_plan.proofs.EntryStores.{IsOwnTable, walk_off, whole_store, own_after, fewer}
 

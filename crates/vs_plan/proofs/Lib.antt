@@ -17,7 +17,6 @@ pub mod UnstoredJoins
 pub mod FirstRoots
 pub mod EntryStores
 pub mod Unlinks
-pub mod Words
 pub mod RunWords
 pub mod PartSpaces
 mod OtherFlags

@@ -14,10 +14,10 @@ use Rattle.vs_types.specs.declared.page.Size.TheVariants.{M2}
 use Rattle.vs_walk.specs.Memory.{Memory}
 use Rattle.vs_space.specs.Path.{found_at}
 use Rattle.vs_space.specs.Held.{word_at}
-use Rattle.vs_space.proofs.FlaggedWords.{said}
+use Rattle.vs_types.proofs.Placed.{said}
 use Rattle.vs_plan.specs.declared.plan.Store.{Store}
 use Rattle.vs_plan.specs.Answered.{Follows, IsLike}
-use Rattle.vs_plan.specs.Bits.{unflagged}
+use Rattle.vs_types.specs.Bits.{unflagged}
 use Rattle.vs_plan.specs.Stores.{stored, stored_all, FindTheirWords}
 use Rattle.vs_plan.proofs.RunWords.{leaf_parts}
 use Rattle.vs_plan.proofs.Stored.{found_word, used_word}

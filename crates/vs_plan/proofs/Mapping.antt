@@ -28,7 +28,7 @@ use Rattle.vs_plan.specs.declared.plan.Reply.TheVariants as replies
 use Rattle.vs_plan.specs.declared.plan.Store.{Store}
 use Rattle.vs_plan.specs.declared.request.Request.TheVariants.{Map}
 use Rattle.vs_plan.specs.declared.target.Target.{Target}
-use Rattle.vs_plan.specs.Bits.{page_word}
+use Rattle.vs_types.specs.Bits.{page_word}
 use Rattle.vs_plan.specs.Premise.{HasOwnWay, IsSpare}
 use Rattle.vs_plan.specs.Right.{IsMeant, OfPage, OfSpare, IsWritten, IsPut, Fits, IsAlready, IsFlushed, IsPruned, ReachesNoOther}
 use Rattle.vs_plan.specs.Shown.{EndsAt, frames_of, LeadsToPage, AreFilled}

@@ -15,15 +15,14 @@ use Rattle.vs_walk.specs.Walk.{TranslatesAs}
 use Rattle.vs_types.specs.declared.page.Rights.{Rights}
 use Rattle.vs_types.specs.declared.page.Size.{Size}
 use Rattle.vs_types.specs.declared.page.Size.TheVariants.{K4}
-use Rattle.vs_plan.specs.Again.{HasFlagsSet, flags_into, with_flags_of}
-use Rattle.vs_plan.specs.Bits.{bits_in, with_address, with_rights}
+use Rattle.vs_types.specs.Bits.{HasFlagsSet, bits_in, flags_into, with_address, with_flags_of, with_rights}
 use Rattle.vs_space.specs.Held.{with_word}
 use Rattle.vs_space.specs.Flags.{IsSameButFlags, AreSameButFlags}
 use Rattle.vs_space.proofs.Paths.{agree_walk}
 use Rattle.vs_space.proofs.Writes.{words_in, get_written, get_written_other}
 use Rattle.vs_space.proofs.Flagged.{flagged_found}
 use Rattle.vs_space.proofs.FlaggedWords.{bit_above}
-use Rattle.vs_plan.proofs.Words.{digit, digit_low, in_digits}
+use Rattle.vs_types.proofs.BitWords.{digit, digit_low, in_digits}
 
 module _ {old new : Memory} (is : AreSameButFlags old new) where
   pub same_translations : (depth : Depth) (root : ℕ) (space : Space) → TranslatesAs depth old root space → TranslatesAs depth new root space

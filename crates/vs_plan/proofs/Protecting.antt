@@ -24,7 +24,7 @@ use Rattle.vs_plan.specs.declared.planner.Planner.{Planner}
 use Rattle.vs_plan.specs.declared.request.Request.TheVariants.{Protect}
 use Rattle.vs_plan.specs.declared.plan.Store.{Store}
 use Rattle.vs_plan.specs.declared.target.Target.{Target}
-use Rattle.vs_plan.specs.Bits.{bits_in, with_rights}
+use Rattle.vs_types.specs.Bits.{bits_in, with_rights}
 use Rattle.vs_plan.specs.Request.{address_of}
 use Rattle.vs_plan.specs.Right.{IsEntryOf, IsMeant, OfPage, IsRight}
 use Rattle.vs_plan.specs.Stores.{stored}
@@ -34,7 +34,7 @@ use Rattle.vs_plan.proofs.EntryStores.{walk_off, walk_here, whole_store, fewer, 
 use Rattle.vs_plan.proofs.Pages.{page_here, premise_table}
 use Rattle.vs_plan.proofs.Parts.{none_named, Parts, right_as, safe_one, nothing_parts, due_as, store_at, EndAt, end_at, own_table, rights_right}
 use Rattle.vs_space.proofs.LeafSteps.{begins_at, changed_answer, changed_translates}
-use Rattle.vs_plan.proofs.Words.{with_rights_reads}
+use Rattle.vs_types.proofs.BitWords.{with_rights_reads}
 use Rattle.vs_plan.proofs.Ways.{way_table, walk_at}
 use Rattle.vs_plan.proofs.Stored.{found_word}
 

@@ -18,8 +18,7 @@ use Rattle.vs_plan.specs.declared.plan.Store.{Store}
 use Rattle.vs_plan.specs.declared.request.Request.{Request}
 use Rattle.vs_plan.specs.declared.request.Request.TheVariants.{Unmap, Protect, Remap, Split, Join, Prune, UnmapPart, Collapse}
 use Rattle.vs_plan.specs.declared.target.Target.{Target}
-use Rattle.vs_plan.specs.Again.{HasFlagsSet, flags_into}
-use Rattle.vs_plan.specs.Bits.{bits_in, flagged, page_word, with_address, with_rights}
+use Rattle.vs_types.specs.Bits.{HasFlagsSet, bits_in, flagged, flags_into, page_word, with_address, with_rights}
 use Rattle.vs_plan.specs.Changes.{larger, smaller}
 use Rattle.vs_plan.specs.Right.{IsEntryOf, IsOfPage, IsRemapped, IsSplit, IsJoined, IsCollapsed, IsCut, IsPut}
 use Rattle.vs_plan.specs.Stores.{fill_words, filled, FindTheirWords}

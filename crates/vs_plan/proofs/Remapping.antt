@@ -34,7 +34,7 @@ use Rattle.vs_plan.specs.declared.plan.Store.{Store}
 use Rattle.vs_plan.specs.declared.planner.Planner.{Planner}
 use Rattle.vs_plan.specs.declared.request.Request.TheVariants.{Remap}
 use Rattle.vs_plan.specs.declared.target.Target.{Target}
-use Rattle.vs_plan.specs.Bits.{bits_in, with_rights, with_address}
+use Rattle.vs_types.specs.Bits.{bits_in, with_rights, with_address}
 use Rattle.vs_plan.specs.Changes.{remap, phys_refusal, remap_refusal}
 use Rattle.vs_plan.specs.Premise.{IsPremise}
 use Rattle.vs_plan.specs.Request.{address_of, refusal}
@@ -49,7 +49,7 @@ use Rattle.vs_plan.proofs.Pages.{table_from, page_here, premise_table}
 use Rattle.vs_plan.proofs.Parts.{none_named, Parts, right_as, safe_one, nothing_right, nothing_parts, nothing_as, due_as, store_at, EndAt, end_at, own_table}
 use Rattle.vs_plan.proofs.Parts.{rights_right}
 use Rattle.vs_space.proofs.LeafSteps.{begins_at, leaf_translates}
-use Rattle.vs_plan.proofs.Words.{with_rights_reads}
+use Rattle.vs_types.proofs.BitWords.{with_rights_reads}
 use Rattle.vs_plan.proofs.Ways.{way_table, walk_at}
 use Rattle.vs_plan.proofs.Stored.{found_word}
 use Rattle.vs_plan.proofs.Requests.{passed, not_false}

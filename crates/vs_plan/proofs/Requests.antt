@@ -11,7 +11,7 @@ use Rattle.vs_plan.specs.declared.request.BadRequest.{BadRequest}
 use Rattle.vs_plan.specs.declared.request.Request.{Request}
 use Rattle.vs_plan.specs.declared.request.Request.TheVariants.{Map, Ask, Prune, UnmapPart}
 use Rattle.vs_plan.specs.declared.target.Target.{Target}
-use Rattle.vs_plan.specs.Bits.{AreBits}
+use Rattle.vs_types.specs.Bits.{AreBits}
 use Rattle.vs_plan.specs.Request.{ArePartsOf, IsRequest, IsMapped, IsWhole, address_of, lowest_of, are_bits, request_fault, page_fault, base_fault, part_fault, whole_fault}
 use Rattle.vs_plan.specs.Target.{frames_end}
 

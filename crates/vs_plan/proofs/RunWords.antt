@@ -8,7 +8,7 @@ use Rattle.vs_types.specs.Entry.{meaning, is_leaf, has_reserved, rights_of}
 use Rattle.vs_types.specs.declared.page.Rights.{Rights}
 use Rattle.vs_types.specs.declared.entry.Meaning.TheVariants as entry
 use Rattle.vs_walk.proofs.Walks.{leaf_level}
-use Rattle.vs_space.proofs.FlaggedWords.{said, reserved_from, rights_same}
+use Rattle.vs_types.proofs.Placed.{said, reserved_from, rights_same}
 
 -- ---- what a leaf's word says, bit by bit
 

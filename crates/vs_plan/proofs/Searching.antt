@@ -14,7 +14,6 @@ use Rattle.vs_types.specs.declared.page.Rights.{Rights}
 use Rattle.vs_types.specs.declared.entry.Meaning.TheVariants as entry
 use Rattle.vs_types.specs.declared.answer.Answer.TheVariants as answers
 use Rattle.vs_types.proofs.Pages.{covers_means, covered_canonical, canonical_fits, level_at_most, three_levels}
-use Rattle.vs_space.proofs.Searches.{offset_of}
 use Rattle.vs_walk.specs.Memory.{Memory}
 use Rattle.vs_walk.specs.Walk.{walk, TranslatesAs}
 use Rattle.vs_walk.specs.declared.walk.Walk.TheVariants.{NotMapped}
@@ -90,10 +89,9 @@ module _ {memory : Memory} {p : Planner} {words : List ℕ} (request : IsRequest
   -- ---- the first entry that is present
 
   -- where it begins, as it is computed
-  pub next_exact : (index : ℕ) → index < 512 → (p.base + index * 2 ^ (3 + 9 * p.level) % 18446744073709551616) % 18446744073709551616
+  pub next_exact : (index offset : ℕ) → offset ≡ index * entry_bytes p.level → index < 512 → (p.base + offset) % 18446744073709551616
       ≡ p.base + index * 2 ^ (3 + 9 * p.level)
-  next_exact index within =
-      let exact : index * 2 ^ (3 + 9 * p.level) % 18446744073709551616 ≡ index * 2 ^ (3 + 9 * p.level) = offset_of p.target.depth p.level index low within in
+  next_exact index offset exact within =
       let fits = canonical_fits p.target.depth (p.base + index * 2 ^ (3 + 9 * p.level))
       (next_canonical p.target.depth p.level p.base index (p.base + index * 2 ^ (3 + 9 * p.level)) searched.canonical low searched.aligned within refl) in
       ap (λ n. (p.base + n) % 18446744073709551616) exact ∙ mod-eq_of_lt fits

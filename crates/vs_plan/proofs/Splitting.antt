@@ -24,7 +24,7 @@ use Rattle.vs_space.specs.Table.{IsTableOf}
 use Rattle.vs_space.proofs.Regions.{IsLeafPage, level_back}
 use Rattle.vs_space.proofs.Writes.{get_written_other}
 use Rattle.vs_space.proofs.LeafSteps.{begins_at, leaf_translates}
-use Rattle.vs_plan.specs.Bits.{AreBits, bits_in, page_word, placed}
+use Rattle.vs_types.specs.Bits.{AreBits, bits_in, page_word, placed}
 use Rattle.vs_plan.specs.Changes.{smaller, split}
 use Rattle.vs_plan.specs.Premise.{HasOwnWay}
 use Rattle.vs_plan.specs.Stores.{stepping}
@@ -36,7 +36,7 @@ use Rattle.vs_plan.proofs.Linking.{old_or_new, own_linked}
 use Rattle.vs_plan.proofs.Pages.{table_from}
 use Rattle.vs_plan.proofs.PartSpaces.{split_space, looks_split, split_there}
 use Rattle.vs_plan.proofs.Runs.{IsRun, run_lone, run_of_words, run_walk}
-use Rattle.vs_plan.proofs.Words.{page_reads}
+use Rattle.vs_types.proofs.BitWords.{page_reads}
 
 -- ---- the words of the fill
 

@@ -19,8 +19,8 @@ use Rattle.vs_plan.specs.declared.plan.Reply.TheVariants as replies
 use Rattle.vs_plan.specs.declared.request.Request.{Request}
 use Rattle.vs_plan.specs.declared.request.Request.TheVariants.{Map, Unmap, Protect, Ask, Prune}
 use Rattle.vs_plan.specs.declared.target.Target.{Target}
-use Rattle.vs_plan.specs.Again.{HasFlagsSet, bits_again, flags_into, told_again}
-use Rattle.vs_plan.specs.Bits.{bits_in}
+use Rattle.vs_plan.specs.Again.{bits_again, told_again}
+use Rattle.vs_types.specs.Bits.{HasFlagsSet, bits_in, flags_into}
 use Rattle.vs_plan.specs.Request.{stepped, address_of}
 use Rattle.vs_plan.specs.Right.{IsEntryOf, IsTold}
 use Rattle.vs_plan.proofs.Changing.{change_not_done}

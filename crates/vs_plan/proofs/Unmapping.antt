@@ -35,7 +35,7 @@ use Rattle.vs_plan.specs.declared.plan.Reply.TheVariants as replies
 use Rattle.vs_plan.specs.declared.plan.Store.{Store}
 use Rattle.vs_plan.specs.declared.request.Request.TheVariants.{Unmap}
 use Rattle.vs_plan.specs.declared.target.Target.{Target}
-use Rattle.vs_plan.specs.Bits.{bits_in}
+use Rattle.vs_types.specs.Bits.{bits_in}
 use Rattle.vs_plan.specs.Request.{address_of}
 use Rattle.vs_plan.specs.Target.{highest_link}
 use Rattle.vs_plan.specs.declared.plan.Plan.{Plan}

@@ -1,7 +1,8 @@
 -- Flags that a processor sets in an entry between the moment when its table is shown and the store: bits 5 and 6, accessed and dirty (Intel
 -- SDM volume 3A, chapter "Paging": accessed and dirty flags).
-use Rattle.std.specs.Prelude.{◌≡◌, ℕ, zero, suc, ◌+◌, ◌*◌, ◌/◌, ◌%◌, ◌^◌, ◌<◌, List, [], ◌∷◌, length, slice_index_or, slice_set, Option, Some, None, nat_eq}
+use Rattle.std.specs.Prelude.{◌≡◌, ℕ, zero, suc, ◌<◌, List, [], ◌∷◌, length, slice_index_or, slice_set, Option, Some, None, nat_eq}
 use Rattle.std.specs.Prelude.{if◌then◌else◌}
+use Rattle.vs_types.specs.Bits.{HasFlagsSet, flags_into, with_flags_of}
 use Rattle.vs_types.specs.declared.answer.Answer.TheVariants as answers
 use Rattle.vs_space.specs.Flags.{IsSameButFlags}
 use Rattle.vs_plan.specs.declared.plan.Fill.{Fill}
@@ -11,20 +12,6 @@ use Rattle.vs_plan.specs.declared.plan.Reply.TheVariants as replies
 use Rattle.vs_plan.specs.declared.plan.Store.{Store}
 use Rattle.vs_plan.specs.declared.request.Request.{Request}
 use Rattle.vs_plan.specs.declared.request.Request.TheVariants.{Map, Unmap, Protect, Ask, Remap, Split, Join, Prune, UnmapPart, Collapse}
-
--- the word was an entry that is present, and but for the two flags it is as it was
-pub record HasFlagsSet (old new : ℕ) : Type 0 where
-  pub present : old % 2 ≡ 1
-  pub below : old % 2 ^ 5 ≡ new % 2 ^ 5
-  pub above : old / 2 ^ 7 ≡ new / 2 ^ 7
-
--- a number with the flags of a word
-abbrev pub flags_into : ℕ → ℕ → ℕ
-flags_into word number = number % 2 ^ 5 + word % 2 ^ 7 / 2 ^ 5 * 2 ^ 5 + number / 2 ^ 7 * 2 ^ 7
-
--- an entry with the flags of a word; what is not present stays
-abbrev pub with_flags_of : ℕ → ℕ → ℕ
-with_flags_of word entry = if nat_eq (entry % 2) 0 then entry else flags_into word entry
 
 -- a store of a word that may have other flags
 pub record IsAgain (store again : Store) : Type 0 where

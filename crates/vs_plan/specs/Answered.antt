@@ -17,7 +17,7 @@ use Rattle.vs_plan.specs.declared.request.Request.{Request}
 use Rattle.vs_plan.specs.declared.request.Request.TheVariants.{Map, Unmap, Protect, Ask, Remap, Split, Join, Prune, UnmapPart, Collapse}
 use Rattle.vs_plan.specs.declared.plan.Reply.{Reply}
 use Rattle.vs_plan.specs.declared.plan.Reply.TheVariants as replies
-use Rattle.vs_plan.specs.Bits.{with_address, unflagged}
+use Rattle.vs_types.specs.Bits.{with_address, unflagged}
 use Rattle.vs_plan.specs.Request.{stepped, refusal}
 use Rattle.vs_plan.specs.Target.{frames_end, highest_link}
 use Rattle.vs_plan.specs.Way.{IsWay}

@@ -1,5 +1,4 @@
 pub mod Target
-pub mod Bits
 pub mod Way
 pub mod Premise
 pub mod Changes
@@ -21,6 +20,7 @@ pub use Rattle.vs_types.specs.Page
 pub use Rattle.vs_types.specs.Space
 pub use Rattle.vs_types.specs.Step
 pub use Rattle.vs_types.specs.Entry
+pub use Rattle.vs_types.specs.Bits
 pub use Rattle.vs_types.specs.Laws
 pub use Rattle.vs_walk.specs.Memory
 pub use Rattle.vs_walk.specs.Walk

@@ -15,7 +15,7 @@ use Rattle.vs_plan.specs.declared.request.Request.TheVariants.{Map, Unmap, Prote
 use Rattle.vs_plan.specs.declared.request.BadRequest.{BadRequest}
 use Rattle.vs_plan.specs.declared.request.BadRequest.TheVariants.{PhysBits, RootRange, NotCanonical, Unaligned, PhysUnaligned, PhysRange, Bits, Part}
 use Rattle.vs_plan.specs.declared.plan.Reply.{Reply}
-use Rattle.vs_plan.specs.Bits.{AreBits}
+use Rattle.vs_types.specs.Bits.{AreBits}
 use Rattle.vs_plan.specs.Changes.{remap, split, join, unmap_part, collapse, remap_refusal, split_refusal, join_refusal, collapse_refusal}
 use Rattle.vs_plan.specs.Target.{HasPhysBits, frames_end}
 

@@ -26,7 +26,7 @@ use Rattle.vs_plan.specs.declared.plan.Flush.TheVariants as flushes
 use Rattle.vs_plan.specs.declared.plan.Reply.{Reply}
 use Rattle.vs_plan.specs.declared.plan.Reply.TheVariants as replies
 use Rattle.vs_plan.specs.declared.plan.Plan.{Plan}
-use Rattle.vs_plan.specs.Bits.{page_word, bits_in, with_rights, with_address, flagged}
+use Rattle.vs_types.specs.Bits.{page_word, bits_in, with_rights, with_address, flagged}
 use Rattle.vs_plan.specs.Changes.{smaller, larger, HasParts}
 use Rattle.vs_plan.specs.Premise.{HasOwnWay, IsSpare}
 use Rattle.vs_plan.specs.Request.{address_of}

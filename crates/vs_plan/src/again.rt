@@ -1,11 +1,11 @@
 //! Plans made again with a word in which a processor has set flags since it was shown.
-ghost use Rattle.std.specs.Prelude.{◌≡◌, ◌<◌, ◌/◌, ◌%◌, IfNone, IfSome, IsTrue, IsFalse, length, slice_index_or, if◌then◌else◌};
+ghost use Rattle.std.specs.Prelude.{◌≡◌, ◌<◌, IfNone, IfSome, IsTrue, IsFalse, length, slice_index_or, if◌then◌else◌};
 ghost use Rattle.vs_plan.specs.declared.plan.Store.{Store};
-ghost use Rattle.vs_plan.specs.Again.{HasFlagsSet, IsPlanAgain, bits_again, fill_again, flags_into, new_again, told_again, with_flags_of};
+ghost use Rattle.vs_plan.specs.Again.{IsPlanAgain, bits_again, fill_again, new_again, told_again};
+ghost use Rattle.vs_types.specs.Bits.{HasFlagsSet, flags_into, with_flags_of};
 
 use crate::plan::{Fill, Plan, Reply, Store};
-use crate::word::{ABOVE_FLAGS, BELOW_FLAGS};
-use vs_types::Answer;
+use vs_types::{Answer, flags_into, has_flags_set, with_flags_of};
 
 impl Store {
     /// The store, where a processor has set its flags in the word since it was shown: with the word that is there now as `old`, and
@@ -111,33 +111,4 @@ fn fill_again(word: u64, fill: Option<Fill>) -> Option<Fill>
         Some(fill) => Some(fill.again(word)),
         None => None,
     }
-}
-
-/// Whether a word is an entry, and another one is as it is but for the flags.
-fn has_flags_set(old: u64, word: u64) -> bool
-    ensures yes { IsTrue result → HasFlagsSet old word }
-    ensures no { IsFalse result → HasFlagsSet old word → ⊥ }
-{
-    old % 2 == 1
-        && old % BELOW_FLAGS == word % BELOW_FLAGS
-        && old / ABOVE_FLAGS == word / ABOVE_FLAGS
-}
-
-/// A number with the flags of a word.
-fn flags_into(word: u64, number: u64) -> u64
-    ensures { result ≡ flags_into word number }
-{
-    number % BELOW_FLAGS
-        + word % ABOVE_FLAGS / BELOW_FLAGS * BELOW_FLAGS
-        + number / ABOVE_FLAGS * ABOVE_FLAGS
-}
-
-/// An entry with the flags of a word; what is no entry stays.
-fn with_flags_of(word: u64, entry: u64) -> u64
-    ensures { result ≡ with_flags_of word entry }
-{
-    if entry % 2 == 0 {
-        return entry;
-    }
-    flags_into(word, entry)
 }

@@ -5,7 +5,7 @@ ghost use Rattle.vs_types.specs.Entry.{meaning, size_at};
 ghost use Rattle.vs_types.specs.Page.{bytes_of};
 ghost use Rattle.vs_types.specs.declared.entry.Meaning.{Meaning};
 ghost use Rattle.vs_types.specs.declared.page.Rights.{Rights};
-ghost use Rattle.vs_plan.specs.Bits.{bits_in, unflagged};
+ghost use Rattle.vs_types.specs.Bits.{bits_in, unflagged};
 ghost use Rattle.vs_plan.specs.Answered.{Follows};
 ghost use Rattle.vs_types.specs.Space.{Space, IsSpace};
 ghost use Rattle.vs_types.specs.Step.{look};

@@ -13,8 +13,11 @@ use crate::plan::{Flush, Plan, Reply, Store};
 use crate::planner::Planner;
 use crate::reading::FrameWords;
 use crate::remap::phys_refusal;
-use crate::word::{bits_in, flagged, larger, page_word, permits, unflagged, with_address};
-use vs_types::{Answer, Entry, FRAME_WORDS, Meaning, Page, Rights, Size, index_at};
+use crate::word::larger;
+use vs_types::{
+    Answer, Entry, FRAME_WORDS, Meaning, Page, Rights, Size, bits_in, flagged, index_at, page_word,
+    unflagged, with_address,
+};
 
 impl Planner {
     /// Puts one page in the place of those of the table at the end of the way, which has these words, where they are like the first.
@@ -44,7 +47,7 @@ impl Planner {
         if let Some(reply) = not_over(base, phys, self.target.phys_bits, size) {
             return Plan::nothing(reply, 0);
         }
-        if !permits(self.rights, rights) {
+        if !self.rights.permits(rights) {
             return Plan::nothing(Reply::Rights, 0);
         }
         if self.level >= self.target.highest_link() {

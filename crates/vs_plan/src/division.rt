@@ -9,9 +9,9 @@ ghost use Rattle.vs_plan.specs.inside.Ended.{DividesAround, HasEnded, IsAtEnd, I
 
 use crate::plan::{Fill, Flush, Plan, Reply, Step, Store};
 use crate::planner::{Phase, Planner};
-use crate::word::{bits_in, page_word, smaller};
+use crate::word::smaller;
 use arrayvec::ArrayVec;
-use vs_types::{Answer, Entry, Meaning, Page, Size, index_at};
+use vs_types::{Answer, Entry, Meaning, Page, Size, bits_in, index_at, page_word};
 
 impl Planner {
     /// Asks for the frame of the table of the parts, where a page that can be split begins at the end of the way.

@@ -14,10 +14,9 @@ ghost use Rattle.vs_plan.specs.inside.Ended.{IsAtEnd, HasEnded, IsEnd, IsPlanned
 use crate::plan::{Plan, Reply, Step, Store};
 use crate::planner::{Phase, Planner};
 use crate::request::Request;
-use crate::word::{page_word, permits};
 use arrayvec::ArrayVec;
 use std::mem;
-use vs_types::{Answer, Entry, Meaning, Page, Size, index_at};
+use vs_types::{Answer, Entry, Meaning, Page, Size, index_at, page_word};
 
 impl Planner {
     /// Takes a frame whose words are all 0, or none. It asks for one frame a level below that of the root at most, and only where
@@ -132,7 +131,7 @@ impl Planner {
         ensures next { (memory : Memory) → HasEnded memory self.old word
             → IsNext memory self.new [] result }
     {
-        if !permits(self.rights, page.rights) {
+        if !self.rights.permits(page.rights) {
             return self.refuse(Reply::Rights);
         }
         if self.level > page.size.level() {

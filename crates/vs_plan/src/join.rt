@@ -16,8 +16,11 @@ ghost use Rattle.vs_plan.specs.inside.Ended.{IsAtEnd, IsFirstApart, IsRightWith,
 use crate::plan::{Flush, Plan, Reply, Store};
 use crate::planner::Planner;
 use crate::reading::FrameWords;
-use crate::word::{bits_in, flagged, larger, page_word, unflagged};
-use vs_types::{Answer, Entry, FRAME_WORDS, Meaning, Page, Rights, Size, index_at};
+use crate::word::larger;
+use vs_types::{
+    Answer, Entry, FRAME_WORDS, Meaning, Page, Rights, Size, bits_in, flagged, index_at, page_word,
+    unflagged,
+};
 
 impl Planner {
     /// Puts one page in the place of those of the table at the end of the way, which has these words, where they follow on from the first.

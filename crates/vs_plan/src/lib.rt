@@ -31,6 +31,6 @@ pub use planner::{Asks, Phase, Planner};
 pub use reading::{FrameWords, PlainWords};
 pub use request::{BadRequest, Request, ends_beyond};
 pub use target::Target;
-pub use word::{
-    ABOVE_FLAGS, BELOW_FLAGS, are_bits, bits_in, page_word, permits, with_address, with_rights,
+pub use vs_types::{
+    ABOVE_FLAGS, BELOW_FLAGS, are_bits, bits_in, page_word, with_address, with_rights,
 };

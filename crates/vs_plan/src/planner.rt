@@ -21,9 +21,11 @@ use crate::plan::{Flush, MOST_STORES, Plan, Reply, Step, Store};
 use crate::reading::FrameWords;
 use crate::request::{BadRequest, Request};
 use crate::target::Target;
-use crate::word::{bits_in, is_alone, permits, with_rights};
+use crate::word::is_alone;
 use arrayvec::ArrayVec;
-use vs_types::{Answer, Entry, FRAME_WORDS, Meaning, Page, Rights, Size, index_at};
+use vs_types::{
+    Answer, Entry, FRAME_WORDS, Meaning, Page, Rights, Size, bits_in, index_at, with_rights,
+};
 
 /// The length of a way: an index for each level that there can be, of which 0 is of none.
 const WAY_LENGTH: usize = 6;
@@ -335,7 +337,7 @@ impl Planner {
         if offset != 0 {
             return Plan::nothing(Reply::Answer(Answer::Inside(base - offset)), 0);
         }
-        if !permits(self.rights, rights) {
+        if !self.rights.permits(rights) {
             return Plan::nothing(Reply::Rights, 0);
         }
         let answer = Answer::Changed(self.rights.intersection(own));

@@ -7,8 +7,7 @@ ghost use Rattle.vs_plan.specs.inside.Ended.{IsAtEnd, IsRightAt};
 use crate::plan::{Flush, Plan, Reply, Store};
 use crate::planner::Planner;
 use crate::request::ends_beyond;
-use crate::word::{bits_in, permits, with_address, with_rights};
-use vs_types::{Answer, Entry, Meaning, Rights, Size, index_at};
+use vs_types::{Answer, Entry, Meaning, Rights, Size, bits_in, index_at, with_address, with_rights};
 
 impl Planner {
     /// Lets the page at the end of the way lead to another physical address, with other rights, by one store.
@@ -29,7 +28,7 @@ impl Planner {
         if let Some(reply) = phys_refusal(phys, self.target.phys_bits, size) {
             return Plan::nothing(reply, 0);
         }
-        if !permits(self.rights, rights) {
+        if !self.rights.permits(rights) {
             return Plan::nothing(Reply::Rights, 0);
         }
         let answer = Answer::Changed(self.rights.intersection(own));

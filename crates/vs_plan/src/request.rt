@@ -3,10 +3,9 @@ ghost use Rattle.std.specs.Prelude.{◌≡◌, ◌+◌, ◌^◌, ◌≤◌, ℕ,
 ghost use Rattle.vs_plan.specs.Request.{address_of, lowest_of, request_fault, page_fault, base_fault, part_fault};
 
 use crate::target::Target;
-use crate::word::are_bits;
 use std::error::Error;
 use std::fmt;
-use vs_types::{Page, Rights};
+use vs_types::{Page, Rights, are_bits};
 
 /// What is to be done to a page table, or asked of it.
 #[derive(Clone, Copy, Debug, PartialEq, Eq)]

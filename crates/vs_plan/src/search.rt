@@ -11,7 +11,7 @@ ghost use Rattle.vs_plan.specs.inside.Ended.{IsFirstPresent};
 use crate::plan::{Reply, Step};
 use crate::planner::Planner;
 use crate::reading::FrameWords;
-use vs_types::{Answer, Entry, FRAME_WORDS, Meaning};
+use vs_types::{Answer, Entry, FRAME_WORDS, Meaning, entry_offset};
 
 impl Planner {
     /// Goes on towards the first page below the level of the one that is to be mapped.
@@ -33,7 +33,7 @@ impl Planner {
         let Some((index, word)) = first_present(words) else {
             return self.refuse(Reply::Empty(self.number, self.base));
         };
-        self.base = self.base.wrapping_add((index as u64) << (3 + 9 * level));
+        self.base = self.base.wrapping_add(entry_offset(level, index));
         match Entry::new(word).read(level) {
             Meaning::Table(next, _) => {
                 if next >= self.target.frames_end() {

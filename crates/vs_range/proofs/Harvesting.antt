@@ -10,7 +10,7 @@ use Rattle.vs_space.specs.Held.{word_at}
 use Rattle.vs_space.proofs.Footprints.{word_elsewhere}
 use Rattle.vs_space.proofs.Written.{word_of}
 use Rattle.vs_plan.specs.declared.plan.Store.{Store}
-use Rattle.vs_plan.specs.Bits.{unflagged}
+use Rattle.vs_types.specs.Bits.{unflagged}
 use Rattle.vs_plan.specs.Processor.{page_number, Translation}
 use Rattle.vs_plan.specs.Stores.{stored, FindTheirWords}
 use Rattle.vs_plan.proofs.Stored.{used_word}

@@ -19,12 +19,12 @@ use Rattle.vs_plan.specs.declared.plan.Reply.TheVariants as replies
 use Rattle.vs_plan.specs.declared.plan.Store.{Store}
 use Rattle.vs_plan.specs.declared.request.Request.TheVariants.{Map}
 use Rattle.vs_plan.specs.declared.target.Target.{Target}
-use Rattle.vs_plan.specs.Bits.{page_word, placed}
+use Rattle.vs_types.specs.Bits.{page_word, placed}
 use Rattle.vs_plan.specs.Request.{IsRequest}
 use Rattle.vs_plan.proofs.Mapping.{alone_parts}
 use Rattle.vs_plan.proofs.Parts.{Parts, store_at}
 use Rattle.vs_plan.proofs.Stored.{even_absent}
-use Rattle.vs_plan.proofs.Words.{page_reads}
+use Rattle.vs_types.proofs.BitWords.{page_reads}
 use Rattle.vs_range.specs.declared.run.Run.{Run}
 use Rattle.vs_range.specs.Planner.{map_run}
 use Rattle.vs_range.specs.Run.{IsRunRight}

@@ -20,12 +20,12 @@ use Rattle.vs_plan.specs.declared.plan.Reply.{Reply}
 use Rattle.vs_plan.specs.declared.plan.Reply.TheVariants as replies
 use Rattle.vs_plan.specs.declared.request.Request.TheVariants.{Protect}
 use Rattle.vs_plan.specs.declared.target.Target.{Target}
-use Rattle.vs_plan.specs.Bits.{bits_in, with_rights}
+use Rattle.vs_types.specs.Bits.{bits_in, with_rights}
 use Rattle.vs_plan.specs.Processor.{Kept, IsDropped}
 use Rattle.vs_plan.specs.Request.{IsRequest}
 use Rattle.vs_plan.proofs.Parts.{Parts, EndAt, store_at}
 use Rattle.vs_plan.proofs.Protecting.{same_parts, written_parts}
-use Rattle.vs_plan.proofs.Words.{with_rights_reads}
+use Rattle.vs_types.proofs.BitWords.{with_rights_reads}
 use Rattle.vs_range.specs.Planner.{protect_run}
 use Rattle.vs_range.specs.Run.{pages_flushed, IsRunRight}
 use Rattle.vs_range.specs.Several.{IsDroppedByOne}

@@ -16,7 +16,7 @@ use Rattle.vs_walk.specs.Memory.{Memory}
 use Rattle.vs_walk.proofs.TranslatedBits.{no_table_below}
 use Rattle.vs_space.specs.Held.{word_at}
 use Rattle.vs_space.specs.Path.{found_at, entry_in, table_in, table_at}
-use Rattle.vs_space.proofs.FlaggedWords.{said}
+use Rattle.vs_types.proofs.Placed.{said}
 use Rattle.vs_space.proofs.Footprints.{word_elsewhere}
 use Rattle.vs_space.proofs.Links.{found_in_zeros}
 use Rattle.vs_space.proofs.Writes.{found_alike}
@@ -27,7 +27,7 @@ use Rattle.vs_plan.specs.declared.plan.Store.{Store}
 use Rattle.vs_plan.specs.declared.request.Request.{Request}
 use Rattle.vs_plan.specs.declared.request.Request.TheVariants.{Join, Prune, Collapse}
 use Rattle.vs_plan.specs.declared.target.Target.{Target}
-use Rattle.vs_plan.specs.Bits.{unflagged}
+use Rattle.vs_types.specs.Bits.{unflagged}
 use Rattle.vs_plan.specs.Flushed.{while_stored, Suffices}
 use Rattle.vs_plan.specs.Premise.{HasOwnWay}
 use Rattle.vs_plan.specs.Processor.{region_number, Kept, Translation, PagingEntry, OfRoot, OfTable}

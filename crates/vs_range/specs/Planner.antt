@@ -21,7 +21,7 @@ use Rattle.vs_plan.specs.declared.request.BadRequest.TheVariants.{NotCanonical, 
 use Rattle.vs_plan.specs.declared.request.Request.{Request}
 use Rattle.vs_plan.specs.declared.request.Request.TheVariants.{Map, Unmap, Protect, Ask}
 use Rattle.vs_plan.specs.declared.target.Target.{Target}
-use Rattle.vs_plan.specs.Bits.{page_word, unflagged}
+use Rattle.vs_types.specs.Bits.{page_word, unflagged}
 use Rattle.vs_plan.specs.Planner.{AwaitsWords, AwaitsFrame, frames_given}
 use Rattle.vs_plan.specs.Premise.{IsPremise}
 use Rattle.vs_plan.specs.Processor.{page_number, Translation}

@@ -15,7 +15,7 @@ use Rattle.vs_plan.specs.declared.plan.Store.{Store}
 use Rattle.vs_plan.specs.declared.request.Request.{Request}
 use Rattle.vs_plan.specs.declared.request.Request.TheVariants.{Map, Unmap, Protect}
 use Rattle.vs_plan.specs.declared.target.Target.{Target}
-use Rattle.vs_plan.specs.Bits.{with_rights, unflagged}
+use Rattle.vs_types.specs.Bits.{with_rights, unflagged}
 use Rattle.vs_plan.specs.Flushed.{while_stored}
 use Rattle.vs_plan.specs.Lived.{AreButFlags}
 use Rattle.vs_plan.specs.Processor.{Moment, IsUpToDate}

@@ -1,12 +1,11 @@
 //! Runs by their numbers.
 ghost use Rattle.std.specs.Prelude.{◌≡◌, ◌%◌, ◌<◌, ◌^◌};
 ghost use Rattle.vs_types.specs.Page.{bytes_of};
-ghost use Rattle.vs_plan.specs.Bits.{AreBits};
+ghost use Rattle.vs_types.specs.Bits.{AreBits};
 ghost use Rattle.vs_range.specs.Planner.{map_run, protect_run, unmap_run, harvest_run};
 
 use crate::run::{Change, Forget, Run};
-use crate::word::page_word;
-use vs_types::{Page, Rights, Size};
+use vs_types::{Page, Rights, Size, page_word};
 
 /// The run that maps so many pages.
 pub(crate) fn run_of_map(page: Page, bits: u64, count: usize, frame: u64, index: usize) -> Run

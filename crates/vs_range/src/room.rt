@@ -1,6 +1,5 @@
 //! How many pages there is room for.
 ghost use Rattle.std.specs.Prelude.{◌≡◌, ◌+◌, ◌*◌, ◌<◌, ◌≤◌, ◌⊎◌, ◌^◌, ℕ, min, nat_lt};
-ghost use Rattle.vs_types.specs.Depth.{entry_bytes};
 ghost use Rattle.vs_types.specs.Page.{bytes_of};
 ghost use Rattle.vs_range.specs.Planner.{are_pages};
 
@@ -56,21 +55,4 @@ pub(crate) fn phys_end(phys_bits: u8) -> u64
     ensures { result ≡ 2 ^ min phys_bits 51 }
 {
     1u64 << phys_bits.min(51)
-}
-
-/// What an entry of a table of this level represents, in bytes.
-pub(crate) fn entry_bytes(level: u8) -> u64
-    requires some { 1 ≤ level }
-    requires few { level ≤ 5 }
-    ensures is { result ≡ entry_bytes level }
-    ensures some { 1 ≤ result }
-    ensures most { result ≤ 2 ^ 48 }
-{
-    match level {
-        1 => 1 << 12,
-        2 => 1 << 21,
-        3 => 1 << 30,
-        4 => 1 << 39,
-        _ => 1 << 48,
-    }
 }

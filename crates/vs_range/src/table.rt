@@ -11,11 +11,11 @@ ghost use Rattle.vs_range.specs.Planner.{FollowsLink, IsSeenNext, TakesPage, ran
 
 use crate::made::{run_of_harvest, run_of_map, run_of_protect, run_of_unmap};
 use crate::planner::{RangePlanner, RangeStep};
-use crate::room::{entry_bytes, pages_in, phys_room};
+use crate::room::{pages_in, phys_room};
 use crate::search::{count_alike, count_pages, removed};
-use crate::word::{is_page, permits};
+use crate::word::is_page;
 use vs_plan::FrameWords;
-use vs_types::{FRAME_WORDS, Page, Rights, Size, index_at};
+use vs_types::{FRAME_WORDS, Page, Rights, Size, entry_bytes, index_at};
 
 impl RangePlanner {
     /// A run of absent entries from this word on, or the next step of the first page's planner.
@@ -68,7 +68,7 @@ impl RangePlanner {
         if level != page.size.level() || word % 2 != 0 || self.bytes < page.size.bytes() {
             return 0;
         }
-        if !permits(self.planner.rights, page.rights) {
+        if !self.planner.rights.permits(page.rights) {
             return 0;
         }
         self.most_here(page.size, index_at(level, self.base))
@@ -130,7 +130,7 @@ impl RangePlanner {
         if self.bytes < size.bytes() {
             return RangeStep::Beyond(size);
         }
-        if !permits(self.planner.rights, rights) {
+        if !self.planner.rights.permits(rights) {
             return self.follow_alone(word, words);
         }
         let level = self.planner.level;

@@ -26,7 +26,7 @@ use Rattle.vs_space.specs.Table.{IsTableOf}
 use Rattle.vs_space.specs.Invariant.{IsPageTable}
 use Rattle.vs_space.specs.Counted.{IsCounted, nonzero_count}
 use Rattle.vs_space.specs.Kept.{table_of, KeepsTable}
-use Rattle.vs_space.specs.Written.{IsWritten}
+use Rattle.vs_types.specs.Bits.{IsWritten}
 use Rattle.vs_space.specs.Flags.{IsSameButFlags, AreSameButFlags}
 use Rattle.vs_types.proofs.Maps.{get-remove_same, get-remove_other, len-remove_used}
 use Rattle.vs_space.proofs.Numbered.{get_numbered, get_below_base}

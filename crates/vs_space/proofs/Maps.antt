@@ -25,7 +25,7 @@ use Rattle.vs_types.proofs.Spaces.{page_at_means, insert_space}
 use Rattle.vs_walk.specs.Memory.{Memory, AreWhole}
 use Rattle.vs_walk.specs.Walk.{as_walk}
 use Rattle.vs_walk.specs.declared.walk.Walk.TheVariants.{Mapped}
-use Rattle.vs_space.specs.Flags.{flags_in}
+use Rattle.vs_types.specs.Bits.{flags_in}
 use Rattle.vs_space.specs.Held.{word_at, with_word}
 use Rattle.vs_space.specs.Path.{found_at, table_in, SamePath}
 use Rattle.vs_space.specs.Tree.{NothingUnder}

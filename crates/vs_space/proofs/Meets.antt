@@ -24,7 +24,7 @@ use Rattle.vs_walk.specs.Memory.{Memory}
 use Rattle.vs_space.specs.declared.descent.Descent.{Descent}
 use Rattle.vs_space.specs.Held.{Held, with_word}
 use Rattle.vs_space.specs.Path.{found_at, table_in}
-use Rattle.vs_space.specs.Written.{IsWritten}
+use Rattle.vs_types.specs.Bits.{IsWritten}
 use Rattle.vs_space.specs.inside.Descent.{IsDescent, EndsAt, HasEnded, HasMet}
 use Rattle.vs_space.specs.Table.{PageTable, IsTableOf, IsTableStep}
 use Rattle.vs_space.specs.Invariant.{IsPageTable, table_in_store}

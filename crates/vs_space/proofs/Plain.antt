@@ -10,7 +10,8 @@ use Rattle.vs_types.specs.declared.page.Rights.{Rights}
 use Rattle.vs_types.specs.declared.entry.Meaning.TheVariants as entry
 use Rattle.vs_arena.specs.Store.{zeros}
 use Rattle.vs_walk.specs.Memory.{Memory, AreWhole}
-use Rattle.vs_space.specs.Flags.{flags_in, AddsNoFlags}
+use Rattle.vs_space.specs.Flags.{AddsNoFlags}
+use Rattle.vs_types.specs.Bits.{flags_in}
 use Rattle.vs_space.specs.Held.{word_at, with_word}
 use Rattle.vs_types.proofs.Maps.{get-insert_same, get-insert_other, get-remove_same, get-remove_other}
 use Rattle.vs_space.proofs.Links.{zeros_are}

@@ -11,7 +11,7 @@ use Rattle.vs_walk.specs.Memory.{Memory, AreWhole}
 use Rattle.vs_space.specs.Held.{with_word}
 use Rattle.vs_space.specs.Path.{found_at, table_in, table_at, SamePath}
 use Rattle.vs_space.specs.Tree.{IsTree, IsReached, AreWritten}
-use Rattle.vs_space.specs.Written.{IsWritten}
+use Rattle.vs_types.specs.Bits.{IsWritten}
 use Rattle.vs_types.proofs.Maps.{get-insert_other, get-remove_same, get-remove_other}
 use Rattle.vs_space.proofs.Numbered.{whole-insert}
 use Rattle.vs_space.proofs.Paths.{table_below, none_past, same_table, found_same}

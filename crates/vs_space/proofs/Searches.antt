@@ -1,8 +1,6 @@
 -- The first page below a table, entry by entry.
-use Rattle.std.proofs.Common.{◌≡◌, ◌≢◌, ℕ, suc, ◌+◌, ◌-◌, ◌*◌, ◌%◌, ◌^◌, ◌<◌, ◌≤◌, Some, ⊎_elim, refl, sym, ap, subst, ◌∙◌, mod-eq_of_lt, arith}
-use lib.Pow.{pow-add, pow_mono}
+use Rattle.std.proofs.Common.{◌≡◌, ◌≢◌, ℕ, suc, ◌+◌, ◌-◌, ◌*◌, ◌%◌, ◌^◌, ◌<◌, ◌≤◌, Some, ⊎_elim, refl, sym, ap, subst, ◌∙◌, arith}
 use Rattle.std.specs.Prelude.{IsSome, slice_index}
-use Rattle.std.proofs.Math.Nat.{mul_comm}
 use Rattle.std.proofs.lemmas.Bool.{cases_lt}
 use Rattle.std.specs.FinMap as finite
 use Rattle.vs_types.specs.Depth.{levels, table_bytes, index_at, IsCanonical}
@@ -10,7 +8,6 @@ use Rattle.vs_types.specs.declared.depth.Depth.{Depth}
 use Rattle.vs_types.specs.declared.page.Rights.{Rights}
 use Rattle.vs_types.specs.declared.entry.Meaning.{Meaning}
 use Rattle.vs_types.specs.declared.entry.Meaning.TheVariants as entry
-use Rattle.vs_walk.proofs.Walks.{few_levels}
 use Rattle.vs_walk.specs.Memory.{Memory}
 use Rattle.vs_walk.specs.Walk.{walk}
 use Rattle.vs_walk.specs.declared.walk.Walk.TheVariants.{NotMapped, Reserved}
@@ -137,24 +134,6 @@ module _ {depth : Depth} {m : Memory} {root start from level number base : ℕ} 
         absurd (faultless next next_canonical (walk_reserved tree next level number search.some next_reached is))
     present_ends faultless (entry.Leaf phys own) is other = search_ends is
     present_ends faultless (entry.Table n own) is other = absurd (other n own refl)
-
-under : (x y : ℕ) → x ≤ y → y ≤ 2 ^ 60 → x < 18446744073709551616
-under x y a b = omega arith
-
--- the offset of an entry as it is computed
-pub offset_of : (depth : Depth) (level index : ℕ) → level < levels depth → index < 512
-    → index * 2 ^ (3 + 9 * level) % 18446744073709551616 ≡ index * 2 ^ (3 + 9 * level)
-offset_of depth level index below low = mod-eq_of_lt small where
-  room : (u v : ℕ) → v ≡ u * 512 → index * u ≤ v
-  room u v e = let le : index ≤ 512 = omega arith in let more : index * u ≤ 512 * u = grind arith in let same : 512 * u ≡ u * 512 = mul_comm 512 u in
-      omega arith
-
-  power : 2 ^ (3 + 9 * level + 9) ≤ 2 ^ 60
-  power = let le : 3 + 9 * level + 9 ≤ 60 = omega (arith, few_levels depth) in pow_mono {j = 60} le
-
-  small : index * 2 ^ (3 + 9 * level) < 18446744073709551616
-  small = let within = room (2 ^ (3 + 9 * level)) (2 ^ (3 + 9 * level + 9)) (pow-add 2 (3 + 9 * level) 9) in
-      under (index * 2 ^ (3 + 9 * level)) (2 ^ (3 + 9 * level + 9)) within power
 
 -- an entry that leads to a table is above the lowest level
 pub deep_table : (level : ℕ) (m : Memory) (n a next : ℕ) (own : Rights) → 1 ≤ level → found_at level m n a ≡ Some (entry.Table next own) → 1 < level

@@ -19,8 +19,7 @@ use Rattle.vs_walk.specs.Walk.{all_rights}
 use Rattle.vs_space.specs.Held.{word_at, with_word}
 use Rattle.vs_space.specs.Path.{table_at, entry_in, HasPresent}
 use Rattle.vs_space.specs.Tree.{IsTree, IsReached, AreWritten}
-use Rattle.vs_space.specs.Flags.{flags_in}
-use Rattle.vs_space.specs.Written.{word_for, IsWritten}
+use Rattle.vs_types.specs.Bits.{IsWritten, flags_in, word_for}
 use Rattle.vs_space.proofs.Writes.{IsTreeAt, used_at, after_write, words_in, get_written, get_written_other}
 use Rattle.vs_space.proofs.Links.{zeros_are}
 

@@ -1,16 +1,13 @@
 -- The accessed flag and the dirty flag of an entry, bits 5 and 6, which a processor sets as it translates (Intel SDM volume 3A, chapter
 -- "Paging": accessed and dirty flags).
-use Rattle.std.specs.Prelude.{◌≡◌, ◌≢◌, ℕ, ◌+◌, ◌*◌, ◌^◌, List, Some}
+use Rattle.std.specs.Prelude.{◌≡◌, ◌≢◌, ℕ, List, Some}
 use Rattle.std.specs.FinMap as finite
 use Rattle.std.specs.Int.{bit_at}
 use Rattle.std.specs.List.{AllZip}
+use Rattle.vs_types.specs.Bits.{flags_in}
 use Rattle.vs_arena.specs.Store.{Store}
 use Rattle.vs_walk.specs.Memory.{Memory}
 use Rattle.vs_space.specs.Held.{word_at}
-
--- the two flags of a word, as they are in it
-abbrev pub flags_in : ℕ → ℕ
-flags_in word = bit_at word 5 * 2 ^ 5 + bit_at word 6 * 2 ^ 6
 
 -- a word is as it was, but for the two flags where it is present
 pub record IsSameButFlags (old new : ℕ) : Type 0 where

@@ -11,7 +11,7 @@ use Rattle.vs_walk.specs.Walk.{walk}
 use Rattle.vs_walk.specs.declared.walk.Walk.TheVariants.{NotMapped}
 use Rattle.vs_space.specs.Held.{word_at}
 use Rattle.vs_space.specs.Path.{found_at, table_at, SamePath}
-use Rattle.vs_space.specs.Written.{IsWritten}
+use Rattle.vs_types.specs.Bits.{IsWritten}
 
 -- the tables that are reached are in use, no two paths lead to one, and entries that lead to tables allow everything
 pub record IsTree (top : ℕ) (memory : Memory) (root : ℕ) : Type 0 where

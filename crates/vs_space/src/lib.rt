@@ -7,6 +7,5 @@ mod descent;
 pub mod laws;
 mod space;
 mod tables;
-mod word;
 
 pub use space::{NoRoot, Space, SpaceParts};

@@ -21,13 +21,13 @@ ghost use Rattle.vs_space.specs.inside.Descent.{HasEnded, HasMet};
 
 use crate::descent::{Descent, PATH_LENGTH};
 use crate::tables::Tables;
-use crate::word::{RightsBits, read_written};
 use std::error::Error;
 use std::fmt;
 use std::marker::Model;
 use vs_arena::{FRAME_WORDS, FrameStore};
 use vs_types::{
-    Access, Action, Answer, Depth, Entry, Meaning, Mode, Op, Page, Rights, Size, index_at,
+    Access, Action, Answer, Depth, Entry, Meaning, Mode, Op, Page, Rights, RightsBits, Size,
+    index_at, read_written,
 };
 use vs_walk::{FrameWords, Frames};
 

@@ -16,15 +16,13 @@ ghost use Rattle.vs_space.specs.Counted.{IsCounted};
 ghost use Rattle.vs_walk.specs.Memory.{AreWhole};
 ghost use Rattle.vs_space.specs.Path.{found_at, entry_in, IsFirstPresent, HasPresent};
 ghost use Rattle.vs_space.specs.Tree.{IsTree, IsReached, AreWritten};
-ghost use Rattle.vs_space.specs.Written.{IsWritten};
 ghost use Rattle.vs_space.specs.inside.Grow.{IsExtended, IsBelowRoot, IsLeastBase};
 ghost use Rattle.vs_space.specs.inside.Descent.{EndsAt};
 
 use crate::descent::{Descent, PATH_LENGTH};
-use crate::word::read_written;
 use std::marker::Model;
 use vs_arena::{FRAME_WORDS, Frame, FrameStore};
-use vs_types::{Depth, Entry, Meaning, index_at};
+use vs_types::{Depth, Entry, Meaning, entry_offset, index_at, read_written};
 
 /// The frames of a store by number, each with how many of its words aren't 0 as its note. Contracts see those in use, and how
 /// many there can be.
@@ -369,7 +367,7 @@ impl<S: FrameStore> Tables<S> {
             let Some(index) = self.first_present(level, number) else {
                 unreachable!();
             };
-            base += (index as u64) << (3 + 9 * level);
+            base += entry_offset(level, index);
             let Meaning::Table(next, _) = self.entry(level, number, base) else {
                 return base;
             };

@@ -19,3 +19,8 @@ pub mod TableCounts
 pub mod Overlaps
 pub mod Refusals
 pub mod AnswerEquality
+pub mod Placed
+pub mod EntryBytes
+pub mod BitWords
+pub mod AllowedBits
+pub mod ReservedBits

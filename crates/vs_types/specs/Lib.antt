@@ -12,6 +12,7 @@ pub mod LogEntry
 pub mod Space
 pub mod Step
 pub mod Entry
+pub mod Bits
 pub mod Frame
 pub mod Examples
 pub mod Laws

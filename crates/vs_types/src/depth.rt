@@ -1,7 +1,7 @@
 //! How many levels a page table has, and which addresses it translates.
-ghost use Rattle.std.specs.Prelude.{◌≡◌, ◌↔◌, ◌<◌, ◌≤◌, IsTrue};
+ghost use Rattle.std.specs.Prelude.{◌≡◌, ◌*◌, ◌<◌, ◌≤◌, ◌^◌};
 ghost use Rattle.vs_types.specs.declared.limits.TheConstants.{MOST_LEVELS};
-ghost use Rattle.vs_types.specs.Depth.{index_at};
+ghost use Rattle.vs_types.specs.Depth.{entry_bytes, index_at};
 
 use crate::op::BadOp;
 
@@ -50,11 +50,32 @@ impl Depth {
     }
 }
 
+/// What one entry of a table of this level represents, in bytes.
+#[inline]
+pub fn entry_bytes(level: u8) -> u64
+    requires { level ≤ MOST_LEVELS }
+    ensures is { result ≡ entry_bytes level }
+    ensures some { 1 ≤ result }
+    ensures most { result ≤ 2 ^ 48 }
+{
+    1u64 << (3 + 9 * level)
+}
+
+/// How many bytes behind the first address of a table of this level those of its entry of this index begin.
+#[inline]
+pub fn entry_offset(level: u8, index: usize) -> u64
+    requires few { level ≤ MOST_LEVELS }
+    requires low { index < 512 }
+    ensures { result ≡ index * entry_bytes level }
+{
+    index as u64 * entry_bytes(level)
+}
+
 /// The index of the entry for an address in a table of this level: 0 to 511. The level of a root is the highest.
 pub fn index_at(level: u8, address: u64) -> usize
     requires { level ≤ MOST_LEVELS }
     ensures is { result ≡ index_at level address }
     ensures low { result < 512 }
 {
-    ((address >> (3 + 9 * level)) % 512) as usize
+    (address / entry_bytes(level) % 512) as usize
 }

@@ -1,5 +1,5 @@
 //! Pages, their sizes and their rights.
-ghost use Rattle.std.specs.Prelude.{◌≡◌, ◌==◌, ◌%◌};
+ghost use Rattle.std.specs.Prelude.{◌≡◌, ◌≢◌, ◌==◌, ◌%◌, IsTrue, IsFalse};
 
 /// How many bytes a page has.
 #[derive(Clone, Copy, Debug, PartialEq, Eq)]
@@ -110,6 +110,14 @@ impl Rights {
             user: self.user && other.user,
             exec: self.exec && other.exec,
         }
+    }
+
+    /// Whether entries that allow these rights together allow all that is wanted.
+    pub fn permits(self, wanted: Rights) -> bool
+        ensures all { IsTrue result → intersection self wanted ≡ wanted }
+        ensures less { IsFalse result → intersection self wanted ≢ wanted }
+    {
+        self.intersection(wanted) == wanted
     }
 }
 

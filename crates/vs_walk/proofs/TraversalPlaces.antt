@@ -23,23 +23,14 @@ pub entry_begins : (depth : Depth) (place : TablePosition) (index : ℕ) → Fit
     → place.start + index * entry_bytes place.level < 2 * half_bytes depth
 entry_begins depth place index fits within = let below = entry_within depth place index fits within in let some = entry_some place.level in omega arith
 
--- and where it begins is computed so
-pub offset_is : (depth : Depth) (place : TablePosition) (index : ℕ) → Fits depth place → index < 512
-    → index * 2 ^ (3 + 9 * place.level) % 18446744073709551616 ≡ index * entry_bytes place.level
-offset_is depth place index fits within =
-    let begins = entry_begins depth place index fits within in
-    let few = halves_fit depth in
-    small (index * entry_bytes place.level) (omega arith)
-  where
-    small : (n : ℕ) → n < 2 ^ 64 → n % 18446744073709551616 ≡ n
-    small n lt = omega arith
-
+-- and where it begins fits
 pub start_fits : (depth : Depth) (place : TablePosition) (index : ℕ) → Fits depth place → index < 512
-    → Fits-word w64 (place.start + index * 2 ^ (3 + 9 * place.level) % 18446744073709551616)
+    → place.start + index * entry_bytes place.level < 2 ^ 64
 start_fits depth place index fits within =
-    let begins = entry_begins depth place index fits within in
-    let few = halves_fit depth in
-    subst (λ n. Fits-word w64 (place.start + n)) (sym (offset_is depth place index fits within)) (omega arith)
+    let begins = entry_begins depth place index fits within in let few = halves_fit depth in omega arith
+
+pub level_few : (depth : Depth) (place : TablePosition) → Fits depth place → place.level ≤ 5
+level_few depth place fits = omega (arith, fits.highest, few_levels depth)
 
 -- the table that an entry leads to fits
 pub fits_below : (depth : Depth) (place : TablePosition) (index start number : ℕ) (rights : Rights) → Fits depth place → index < 512 → 1 < place.level

@@ -1,7 +1,7 @@
 -- What a walk does at an entry.
-use Rattle.std.proofs.Common.{◌≡◌, ℕ, zero, suc, ◌+◌, ◌-◌, ◌*◌, ◌%◌, ◌^◌, ◌<◌, ◌≤◌, List, Some, None, refl, sym, ap, subst, ◌∙◌, arith, slice_index}
+use Rattle.std.proofs.Common.{◌≡◌, ℕ, zero, suc, ◌-◌, ◌^◌, ◌<◌, ◌≤◌, List, Some, None, refl, sym, ap, subst, ◌∙◌, arith, slice_index}
 use Rattle.std.specs.FinMap as finite
-use Rattle.vs_types.specs.Depth.{levels, entry_bytes, index_at}
+use Rattle.vs_types.specs.Depth.{levels, index_at}
 use Rattle.vs_types.specs.Entry.{meaning}
 use Rattle.vs_types.specs.declared.depth.Depth.{Depth}
 use Rattle.vs_types.specs.declared.depth.Depth.TheVariants.{Four, Five}
@@ -68,17 +68,3 @@ entry_met memory level number index word rights address words found some is plac
 -- where a leaf can be, and where its page lies
 pub leaf_level : (level word phys : ℕ) (own : Rights) → meaning level word ≡ entry.Leaf phys own → (level ≤ 3) × (phys < 2 ^ 52)
 leaf_level level word phys own is = grind arith
-
--- no entry of a level where a leaf can be is above 2^30 bytes
-small_entries : (level : ℕ) → level ≤ 3 → (0 < entry_bytes level) × (entry_bytes level ≤ 2 ^ 30)
-small_entries (suc (suc (suc (suc level)))) few = absurd (omega arith)
-small_entries _ few = (omega arith, omega arith)
-
--- the offset as it is computed
-pub offset_is : (level word phys address : ℕ) (own : Rights) → meaning level word ≡ entry.Leaf phys own
-    → address % (1 * 2 ^ (3 + 9 * level) % 18446744073709551616) ≡ address % entry_bytes level
-offset_is level word phys address own is =
-    let small = small_entries level (leaf_level level word phys own is).0 in
-    ap (λ bytes. address % bytes) (same (entry_bytes level) small.1) where
-      same : (bytes : ℕ) → bytes ≤ 2 ^ 30 → 1 * bytes % 18446744073709551616 ≡ bytes
-      same bytes few = omega arith

@@ -14,7 +14,9 @@ use crate::frames::Frames;
 use crate::reached::{Marks, Reached};
 use crate::walk::WalkFault;
 use std::alloc::Global;
-use vs_types::{Depth, Entry, FRAME_WORDS, Fail, Meaning, Memory, Page, Rights, Size};
+use vs_types::{
+    Depth, Entry, FRAME_WORDS, Fail, Meaning, Memory, Page, Rights, Size, entry_offset,
+};
 
 /// Takes the pages of a page table, one after another.
 pub trait PageVisitor {
@@ -45,7 +47,7 @@ impl TablePosition {
         requires fits { Fits depth self }
         ensures { result ≡ self.start + index * entry_bytes self.level }
     {
-        self.start + ((index as u64) << (3 + 9 * self.level))
+        self.start + entry_offset(self.level, index)
     }
 
     /// The table to which its entry of this index leads.

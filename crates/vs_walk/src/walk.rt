@@ -4,7 +4,7 @@ ghost use Rattle.vs_types.specs.Depth.{entry_bytes, IsCanonical};
 ghost use Rattle.vs_walk.specs.Walk.{walk};
 
 use crate::frames::Frames;
-use vs_types::{Depth, Entry, Meaning, Rights, Size, index_at};
+use vs_types::{Depth, Entry, Meaning, Rights, Size, entry_bytes, index_at};
 
 /// The end of a walk through the tables (Intel SDM volume 3A, chapter "Paging").
 #[derive(Clone, Copy, Debug, PartialEq, Eq)]
@@ -47,7 +47,7 @@ pub fn translate<F: Frames>(frames: &F, root: u64, depth: Depth, address: u64) -
             Meaning::Absent => return Walk::NotMapped,
             Meaning::Reserved => return Walk::Reserved,
             Meaning::Leaf(phys, own) => {
-                let offset = address % (1 << (3 + 9 * level));
+                let offset = address % entry_bytes(level);
                 return Walk::Mapped(
                     phys + offset,
                     Size::at_level(level),

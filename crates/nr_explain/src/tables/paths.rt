@@ -4,15 +4,15 @@ ghost use Rattle.std.specs.Prelude.{◌≡◌, ◌≤◌, ◌<◌, ◌↔◌, �
 ghost use Rattle.vs_types.specs.declared.limits.TheConstants.{MOST_LEVELS};
 ghost use Rattle.vs_types.specs.Depth.{levels};
 ghost use Rattle.nr_explain.specs.inside.Ways.{GoesNowhere, GoesOnTo, HasTwoWays, IsAnotherWay, IsMet, IsReservedAt, IsSearched};
-ghost use Rattle.vs_types.specs.Entry.{meaning};
 ghost use Rattle.vs_types.specs.declared.entry.Meaning.TheVariants.{Reserved};
 ghost use Rattle.nr_explain.specs.Evidence.{IsRootPath, StepsLeadTo};
-ghost use Rattle.nr_explain.specs.Facts.{entries_read, HasReservedWord, IsLowestReservedBit};
+ghost use Rattle.nr_explain.specs.Facts.{entries_read, HasReservedWord};
+ghost use Rattle.vs_types.specs.Bits.{IsLowestReservedBit};
 ghost use Rattle.nr_explain.specs.declared.trace.evidence.TableEntry.{TableEntry};
 
 use crate::trace::evidence::TableEntry;
 use std::alloc::Global;
-use vs_types::{Depth, Entry, Meaning, Memory, index_at};
+use vs_types::{Depth, Entry, Meaning, Memory, index_at, reserved_bit};
 use vs_walk::{Dump, Frames};
 
 /// What is looked for in the tables of a dump.
@@ -200,19 +200,6 @@ pub fn entry_at(dump: &Dump, level: u8, frame: u64, index: u16) -> TableEntry
         },
         None => unreachable!(),
     }
-}
-
-/// A bit of a word that is set and reserved, as an entry of a level: the lowest.
-pub fn reserved_bit(level: u8, word: u64) -> u8
-    requires few_levels { level ≤ MOST_LEVELS }
-    requires reserved { meaning level word ≡ Reserved }
-    ensures { IsLowestReservedBit level word result }
-{
-    if level > 3 {
-        return 7;
-    }
-    let reserved = (word % (1 << (3 + 9 * level))) >> 13;
-    13 + reserved.trailing_zeros() as u8
 }
 
 /// The first way from the root of a dump to a table that has at an index a word with a reserved bit set, where some way leads there; that

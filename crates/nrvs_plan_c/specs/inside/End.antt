@@ -17,7 +17,8 @@ use Rattle.nrvs_plan_c.specs.declared.codes.TheConstants.{ENDED}
 use Rattle.nrvs_plan_c.specs.declared.end.End.{End}
 use Rattle.nrvs_plan_c.specs.declared.kept.Plan.{Plan}
 use Rattle.nrvs_plan_c.specs.declared.kept.Target as numbers
-use Rattle.nrvs_plan_c.specs.Kept.{rights_at, target_of}
+use Rattle.nrvs_plan_c.specs.Kept.{target_of}
+use Rattle.vs_types.specs.Bits.{rights_at}
 use Rattle.nrvs_plan_c.specs.Next.{IsPlanned}
 
 -- there is such a target, and the address is canonical

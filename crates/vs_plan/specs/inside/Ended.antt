@@ -20,7 +20,7 @@ use Rattle.vs_plan.specs.declared.plan.Store.{Store}
 use Rattle.vs_plan.specs.declared.planner.Planner.{Planner}
 use Rattle.vs_plan.specs.declared.request.Request.{Request}
 use Rattle.vs_plan.specs.declared.request.Request.TheVariants.{Map, Unmap, Protect, Ask, Remap, Split, Join, Prune, UnmapPart, Collapse}
-use Rattle.vs_plan.specs.Bits.{page_word, bits_in, flagged}
+use Rattle.vs_types.specs.Bits.{page_word, bits_in, flagged}
 use Rattle.vs_plan.specs.Changes.{larger}
 use Rattle.vs_plan.specs.Premise.{IsPremise}
 use Rattle.vs_plan.specs.Request.{IsRequest, address_of, lowest_of}

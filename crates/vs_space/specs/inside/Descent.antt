@@ -11,7 +11,7 @@ use Rattle.vs_walk.specs.Memory.{Memory}
 use Rattle.vs_space.specs.declared.descent.Descent.{Descent}
 use Rattle.vs_space.specs.Path.{found_at, table_at, table_in}
 use Rattle.vs_space.specs.Table.{PageTable}
-use Rattle.vs_space.specs.Written.{IsWritten}
+use Rattle.vs_types.specs.Bits.{IsWritten}
 use Rattle.vs_space.specs.Invariant.{IsPageTable}
 
 -- the table of this level is reached, those above it are on the path, and its entry leads no further, or is of the lowest level that is asked for

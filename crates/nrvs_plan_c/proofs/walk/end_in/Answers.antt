@@ -1,6 +1,7 @@
 use Rattle.std.proofs.Common.{◌≡◌, ⊎_elim, subst, arith}
 use Rattle.vs_plan.specs.Way.{IsWay}
-use Rattle.nrvs_plan_c.specs.Kept.{depth_in, rights_at, target_of}
+use Rattle.nrvs_plan_c.specs.Kept.{depth_in, target_of}
+use Rattle.vs_types.specs.Bits.{rights_at}
 use Rattle.nrvs_plan_c.proofs.Walking.{frame_shown, way_begins, way_goes_on, word_shown}
 use Rattle.nrvs_plan_c.proofs.walk.end_in.Goals as goal
 

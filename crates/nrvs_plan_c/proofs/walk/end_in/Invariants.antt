@@ -2,7 +2,8 @@ use Rattle.std.proofs.Common.{◌≤◌}
 use Rattle.vs_walk.specs.Memory.{Memory}
 use Rattle.vs_plan.specs.Way.{IsWay}
 use Rattle.nrvs_plan_c.specs.Direct.{HasFramesWithin}
-use Rattle.nrvs_plan_c.specs.Kept.{depth_in, rights_at, target_of}
+use Rattle.nrvs_plan_c.specs.Kept.{depth_in, target_of}
+use Rattle.vs_types.specs.Bits.{rights_at}
 use Rattle.nrvs_plan_c.proofs.walk.end_in.Given as goal
 
 abbrev pub invariant-loop-level : goal.invariant-loop-level

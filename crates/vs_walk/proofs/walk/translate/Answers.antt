@@ -1,6 +1,6 @@
 use Rattle.std.proofs.Common.{◌-◌, sym, ap, ◌∙◌, arith}
 use Rattle.vs_walk.specs.Walk.{walk_from, all_rights}
-use Rattle.vs_walk.proofs.Walks.{few_levels, entry_met, missing_at, walk_nowhere, offset_is}
+use Rattle.vs_walk.proofs.Walks.{few_levels, entry_met, missing_at, walk_nowhere}
 use Rattle.vs_walk.proofs.walk.translate.Goals as goal
 
 pub loop-level-init : goal.loop-level-init
@@ -28,8 +28,7 @@ returns-in-Reserved g c =
 pub returns-in-Leaf : goal.returns-in-Leaf
 returns-in-Leaf g c =
     rw (
-      offset_is c.loop-level.level c.new.result c.in-Leaf.phys c.args.address c.in-Leaf.own
-          (sym c.in-Leaf.ensures),
+      c.entry_bytes.ensures.is,
       c.at_level.ensures,
       c.intersection.ensures,
     )

@@ -7,7 +7,7 @@ use Rattle.vs_types.specs.declared.answer.Answer.TheVariants as answers
 use Rattle.vs_types.specs.declared.page.Size.{Size}
 use Rattle.vs_plan.specs.declared.plan.Flush.TheVariants as flushes
 use Rattle.vs_plan.specs.declared.plan.Reply.TheVariants as replies
-use Rattle.vs_plan.specs.Bits.{bits_in, page_word}
+use Rattle.vs_types.specs.Bits.{bits_in, page_word}
 use Rattle.vs_plan.specs.Changes.{smaller}
 use Rattle.vs_plan.proofs.Divided.{fill_as, frame_few, parts_right, part_aligned}
 use Rattle.vs_plan.proofs.Parts.{only_store}

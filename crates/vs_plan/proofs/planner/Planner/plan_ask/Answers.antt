@@ -4,7 +4,7 @@ use Rattle.vs_types.specs.Page.{bytes_of}
 use Rattle.vs_types.specs.declared.entry.Meaning.TheVariants as entry
 use Rattle.vs_types.specs.declared.answer.Answer.TheVariants as answers
 use Rattle.vs_plan.specs.declared.plan.Reply.TheVariants as replies
-use Rattle.vs_plan.specs.Bits.{bits_in}
+use Rattle.vs_types.specs.Bits.{bits_in}
 use Rattle.vs_plan.proofs.Asking.{ask_right}
 use Rattle.vs_plan.proofs.Parts.{nothing_as}
 use Rattle.vs_plan.proofs.planner.Planner.plan_ask.Goals as goal

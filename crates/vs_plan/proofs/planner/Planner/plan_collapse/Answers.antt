@@ -3,7 +3,7 @@ use Rattle.vs_types.specs.Entry.{size_at}
 use Rattle.vs_types.specs.Page.{bytes_of}
 use Rattle.vs_types.specs.declared.page.Size.{Size}
 use Rattle.vs_plan.specs.declared.plan.Flush.TheVariants as flushes
-use Rattle.vs_plan.specs.Bits.{bits_in, flagged, page_word}
+use Rattle.vs_types.specs.Bits.{bits_in, flagged, page_word}
 use Rattle.vs_plan.specs.Changes.{larger, not_over}
 use Rattle.vs_plan.specs.Answered.{IsLike}
 use Rattle.vs_plan.specs.inside.Ended.{IsFirstUnlike}

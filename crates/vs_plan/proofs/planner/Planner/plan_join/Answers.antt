@@ -2,7 +2,7 @@ use Rattle.std.proofs.Common.{◌≡◌, ℕ, ◌<◌, ◌≤◌, ◌%◌, arith
 use Rattle.vs_types.specs.Page.{bytes_of}
 use Rattle.vs_plan.specs.declared.plan.Flush.TheVariants as flushes
 use Rattle.vs_plan.specs.declared.plan.Store.{Store}
-use Rattle.vs_plan.specs.Bits.{bits_in}
+use Rattle.vs_types.specs.Bits.{bits_in}
 use Rattle.vs_plan.specs.Changes.{larger, not_first}
 use Rattle.vs_plan.specs.Answered.{Follows}
 use Rattle.vs_plan.specs.inside.Ended.{IsFirstApart}

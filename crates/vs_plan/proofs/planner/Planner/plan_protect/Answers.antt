@@ -1,7 +1,7 @@
 use Rattle.std.proofs.Common.{◌≡◌, ◌%◌, sym, ap, ◌∙◌, subst}
 use Rattle.vs_types.specs.Page.{bytes_of}
 use Rattle.vs_plan.specs.declared.plan.Flush.TheVariants as flushes
-use Rattle.vs_plan.specs.Bits.{bits_in}
+use Rattle.vs_types.specs.Bits.{bits_in}
 use Rattle.vs_plan.proofs.Asking.{read_leaf, inside_right}
 use Rattle.vs_plan.proofs.Protecting.{less_right, same_right, written_right}
 use Rattle.vs_plan.proofs.Parts.{only_store}

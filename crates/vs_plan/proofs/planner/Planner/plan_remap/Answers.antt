@@ -2,7 +2,7 @@ use Rattle.std.proofs.Common.{◌≡◌, ◌%◌, sym, ap, ◌∙◌, subst, ari
 use Rattle.vs_types.specs.Entry.{size_at}
 use Rattle.vs_types.specs.Page.{bytes_of}
 use Rattle.vs_plan.specs.declared.plan.Flush.TheVariants as flushes
-use Rattle.vs_plan.specs.Bits.{bits_in, with_address, with_rights}
+use Rattle.vs_types.specs.Bits.{bits_in, with_address, with_rights}
 use Rattle.vs_plan.specs.Changes.{phys_refusal}
 use Rattle.vs_plan.proofs.Asking.{read_leaf, inside_right}
 use Rattle.vs_plan.proofs.Remapping.{phys_good, refused_right, less_right, same_right, written_right}

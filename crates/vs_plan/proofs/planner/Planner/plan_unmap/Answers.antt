@@ -4,7 +4,7 @@ use Rattle.vs_types.specs.Page.{bytes_of}
 use Rattle.vs_types.specs.declared.answer.Answer.TheVariants as answers
 use Rattle.vs_walk.proofs.Walks.{few_levels}
 use Rattle.vs_plan.specs.declared.plan.Reply.TheVariants as replies
-use Rattle.vs_plan.specs.Bits.{bits_in}
+use Rattle.vs_types.specs.Bits.{bits_in}
 use Rattle.vs_plan.proofs.Asking.{read_leaf, inside_right}
 use Rattle.vs_plan.proofs.Unlinks.{cuts_more, cut_off_more, length-cuts, length-cut_off}
 use Rattle.vs_plan.proofs.Unmapping.{flush_of, flush_more, unmap_right}

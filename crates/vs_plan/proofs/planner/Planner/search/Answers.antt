@@ -24,7 +24,8 @@ returns-then-next-frames_end-clause-next g c = λ memory searched there.
     planned_next p refused.new.self refused.result (ap (λ (q : Planner). q.target) refused.ensures.same)
     (ap (λ (q : Planner). q.request) refused.ensures.same) refused.ensures.planned
     (λ plan none space premise. search_beyond c.requires.awaits.request c.requires.awaits.some searched there first
-    (next_exact c.requires.awaits.request c.requires.awaits.some searched there c.in-Some.index first.within) premise plan says
+    (next_exact c.requires.awaits.request c.requires.awaits.some searched there c.in-Some.index c.entry_offset.result c.entry_offset.ensures
+    first.within) premise plan says
     (omega (arith, c.frames_end.ensures.is, c.if-next-frames_end.true)) none)
 
 pub returns-else-next-frames_end-clause-next : goal.returns-else-next-frames_end-clause-next
@@ -34,7 +35,8 @@ returns-else-next-frames_end-clause-next g c = λ memory searched there.
     let says : meaning p.level (slice_index (g.W.FrameWords.words c.args.words.now) c.in-Some.index) ≡ entry.Table c.in-Table.next c.in-Table.field-1 =
     ap (meaning p.level) (sym c.in-Some.ensures.first.1 ∙ sym c.new.ensures) ∙ sym c.read.ensures ∙ c.in-Table.is in
     shown_on c.requires.awaits.request c.requires.awaits.some searched there first
-    (next_exact c.requires.awaits.request c.requires.awaits.some searched there c.in-Some.index first.within) says c.requires.phase
+    (next_exact c.requires.awaits.request c.requires.awaits.some searched there c.in-Some.index c.entry_offset.result c.entry_offset.ensures
+    first.within) says c.requires.phase
 
 pub returns-in-Leaf-clause-next : goal.returns-in-Leaf-clause-next
 returns-in-Leaf-clause-next g c = λ memory searched there.
@@ -46,7 +48,8 @@ returns-in-Leaf-clause-next g c = λ memory searched there.
     planned_next p refused.new.self refused.result (ap (λ (q : Planner). q.target) refused.ensures.same)
     (ap (λ (q : Planner). q.request) refused.ensures.same) refused.ensures.planned
     (λ plan none space premise. leaf_right c.requires.awaits.request c.requires.awaits.some searched there first
-    (next_exact c.requires.awaits.request c.requires.awaits.some searched there c.in-Some.index first.within) premise plan says none)
+    (next_exact c.requires.awaits.request c.requires.awaits.some searched there c.in-Some.index c.entry_offset.result c.entry_offset.ensures
+    first.within) premise plan says none)
 
 pub returns-in-Absent-clause-next : goal.returns-in-Absent-clause-next
 returns-in-Absent-clause-next g c = λ memory searched there.
@@ -59,7 +62,9 @@ returns-in-Absent-clause-next g c = λ memory searched there.
     (ap (λ (q : Planner). q.request) refused.ensures.same) refused.ensures.planned
     (λ plan none space premise. ⊎_elim
     (λ absent. absurd (search_present c.requires.awaits.request c.requires.awaits.some searched there first
-    (next_exact c.requires.awaits.request c.requires.awaits.some searched there c.in-Some.index first.within) (reads ∙ absent)))
+    (next_exact c.requires.awaits.request c.requires.awaits.some searched there c.in-Some.index c.entry_offset.result c.entry_offset.ensures
+    first.within) (reads ∙ absent)))
     (λ reserved. search_reserved c.requires.awaits.request c.requires.awaits.some searched there first
-    (next_exact c.requires.awaits.request c.requires.awaits.some searched there c.in-Some.index first.within) premise plan (reads ∙ reserved))
+    (next_exact c.requires.awaits.request c.requires.awaits.some searched there c.in-Some.index c.entry_offset.result c.entry_offset.ensures
+    first.within) premise plan (reads ∙ reserved))
     c.in-Absent.is)

@@ -1,11 +1,11 @@
-use Rattle.std.proofs.Common.{◌≡◌, ℕ, ◌+◌, ◌*◌, ◌%◌, ◌^◌, Some, ap, ◌∙◌, arith}
+use Rattle.std.proofs.Common.{◌≡◌, ℕ, ◌+◌, Some, ap, ◌∙◌, arith}
 use Rattle.vs_space.specs.Path.{found_at}
 use Rattle.vs_types.specs.declared.depth.Depth.{Depth}
 use Rattle.vs_types.specs.declared.entry.Meaning.TheVariants as entry
 use Rattle.vs_space.specs.inside.Grow.{IsBelowRoot}
 use Rattle.vs_space.proofs.Written.{written_at}
 use Rattle.vs_types.proofs.Pages.{canonical_fits}
-use Rattle.vs_space.proofs.Searches.{searching_start, used, not_empty, offset_of, next_canonical, present_ends, search_on, deep_table}
+use Rattle.vs_space.proofs.Searches.{searching_start, used, not_empty, next_canonical, present_ends, search_on, deep_table}
 use Rattle.vs_walk.proofs.Walks.{few_levels}
 use Rattle.vs_space.proofs.tables.Tables.least_base.Goals as goal
 
@@ -25,27 +25,25 @@ unreachable-requires g c =
     let search = c.loop-index.invariant.searching c.requires.0 c.requires.1 start in
     not_empty start.tree search start.filled c.in_default.ensures.none
 
-pub overflow_add-base-in-loop-index : goal.overflow_add-base-in-loop-index
-overflow_add-base-in-loop-index g c =
+pub overflow_add-base : goal.overflow_add-base
+overflow_add-base g c =
     let start = c.requires.2 in
     let search = c.loop-index.invariant.searching c.requires.0 c.requires.1 start in
-    let offset = offset_of c.requires.0 c.loop-index.level c.in-Some.index search.below c.in-Some.ensures.first.within in
-    let next = c.loop-index.base + c.in-Some.index * 2 ^ (3 + 9 * c.loop-index.level) % 18446744073709551616 in
+    let next = c.loop-index.base + c.entry_offset-base.result in
     let fits = canonical_fits c.requires.0 next
-    (next_canonical start.tree search c.in-Some.ensures.first (ap (λ x. c.loop-index.base + x) offset)) in
+    (next_canonical start.tree search c.in-Some.ensures.first (ap (λ x. c.loop-index.base + x) c.entry_offset-base.ensures)) in
     omega (arith, fits)
 
 pub returns-in_default-entry : goal.returns-in_default-entry
 returns-in_default-entry g c = λ depth root start.
     let search = c.loop-index.invariant.searching depth root start in
-    let offset = offset_of depth c.loop-index.level c.in-Some.index search.below c.in-Some.ensures.first.within in
-    present_ends start.tree search c.in-Some.ensures.first (ap (λ x. c.loop-index.base + x) offset) start.faultless c.entry.result c.entry.ensures
-    c.in_default-entry.not-Table
+    present_ends start.tree search c.in-Some.ensures.first (ap (λ x. c.loop-index.base + x) c.entry_offset-base.ensures) start.faultless
+    c.entry.result c.entry.ensures c.in_default-entry.not-Table
 
 pub loop-index-preserved : goal.loop-index-preserved
 loop-index-preserved g c =
     let start = c.requires.2 in
-    let next = c.loop-index.base + c.in-Some.index * 2 ^ (3 + 9 * c.loop-index.level) % 18446744073709551616 in
+    let next = c.loop-index.base + c.entry_offset-base.result in
     let found : found_at c.loop-index.level c.args.self.now.memory c.loop-index.number next ≡ Some (entry.Table c.in-Table.next c.in-Table.field-1) =
     c.entry.ensures ∙ ap Some c.in-Table.is in
     let deep = deep_table c.loop-index.level c.args.self.now.memory c.loop-index.number next c.in-Table.next c.in-Table.field-1
@@ -53,7 +51,7 @@ loop-index-preserved g c =
     let on = λ (depth : Depth) (root : ℕ) (is : IsBelowRoot depth c.args.self.now.memory root c.args.address c.args.from c.args.table).
     let search = c.loop-index.invariant.searching depth root is in
     search_on is.tree search c.in-Some.ensures.first
-    (ap (λ x. c.loop-index.base + x) (offset_of depth c.loop-index.level c.in-Some.index search.below c.in-Some.ensures.first.within)) found deep in
+    (ap (λ x. c.loop-index.base + x) c.entry_offset-base.ensures) found deep in
     record {
       some = omega (arith, deep);
       few = omega (arith, c.loop-index.invariant.few);

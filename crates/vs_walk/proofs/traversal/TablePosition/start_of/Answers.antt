@@ -1,9 +1,12 @@
-use Rattle.std.proofs.Common.{ap, ◌+◌}
-use Rattle.vs_walk.proofs.TraversalPlaces.{offset_is, start_fits}
+use Rattle.std.proofs.Common.{◌+◌, ap, arith}
+use Rattle.vs_walk.proofs.TraversalPlaces.{level_few, start_fits}
 use Rattle.vs_walk.proofs.traversal.TablePosition.start_of.Goals as goal
 
-pub overflow_add-result-2 : goal.overflow_add-result-2
-overflow_add-result-2 c = start_fits c.args.depth c.args.self c.args.index c.requires.fits c.requires.within
+pub entry_offset-requires-clause-few : goal.entry_offset-requires-clause-few
+entry_offset-requires-clause-few c = level_few c.args.depth c.args.self c.requires.fits
+
+pub overflow_add-result : goal.overflow_add-result
+overflow_add-result c = omega (arith, c.entry_offset.ensures, start_fits c.args.depth c.args.self c.args.index c.requires.fits c.requires.within)
 
 pub returns : goal.returns
-returns c = ap (λ n. c.args.self.start + n) (offset_is c.args.depth c.args.self c.args.index c.requires.fits c.requires.within)
+returns c = ap (λ n. c.args.self.start + n) c.entry_offset.ensures

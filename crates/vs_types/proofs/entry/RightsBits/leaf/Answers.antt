@@ -1,7 +1,7 @@
 use Rattle.std.proofs.Common.{◌+◌, arith}
 use Rattle.std.proofs.lemmas.Grind.{common_steps}
 use Rattle.vs_types.proofs.LeafWords.{leaf_reads}
-use Rattle.vs_space.proofs.word.RightsBits.leaf.Goals as goal
+use Rattle.vs_types.proofs.entry.RightsBits.leaf.Goals as goal
 
 pub returns-clause-read_back : goal.returns-clause-read_back
 returns-clause-read_back c =

@@ -10,8 +10,8 @@ use Rattle.vs_types.specs.declared.page.Size.{Size}
 use Rattle.vs_types.specs.declared.page.Size.TheVariants.{K4}
 use Rattle.vs_types.specs.declared.entry.Meaning.TheVariants as entry
 use Rattle.vs_types.proofs.Pages.{level_some}
-use Rattle.vs_space.proofs.FlaggedWords.{means_with, said}
-use Rattle.vs_plan.specs.Bits.{AreBits, placed, with_rights}
+use Rattle.vs_types.proofs.Placed.{means_with, said}
+use Rattle.vs_types.specs.Bits.{AreBits, placed, with_rights}
 
 -- ---- other rights
 
@@ -115,3 +115,42 @@ page_reads size phys bits rights aligned few are =
     ap (meaning (level_of size)) (rights_written size phys bits rights aligned few are)
     ∙ with_rights_reads (level_of size) (leaf_word size phys none + placed size bits) rights phys none (level_some size)
     (plain_reads size phys bits aligned few are.above are.low are.high)
+
+-- ---- an entry is a word of 64 bits
+
+pub cond_most : (b : Bool) (n : ℕ) → cond b n 0 ≤ n
+cond_most true n = omega arith
+cond_most false n = omega arith
+
+cond_not_most : (b : Bool) (n : ℕ) → cond b 0 n ≤ n
+cond_not_most true n = omega arith
+cond_not_most false n = omega arith
+
+pub word_room : (size : Size) (phys bits : ℕ) (rights : Rights) → phys % bytes_of size ≡ 0 → phys < 2 ^ 52 → AreBits bits
+    → {word more : ℕ} → word ≡ leaf_word size phys rights → more ≡ placed size bits → word + more < 2 ^ 64
+word_room K4 phys bits rights aligned few are word_is more_is =
+    omega (
+      arith,
+      cond_most rights.write (2 ^ 1),
+      cond_most rights.user (2 ^ 2),
+      cond_not_most rights.exec (2 ^ 63),
+      aligned,
+      few,
+      are.low,
+      are.high,
+      word_is,
+      more_is,
+    )
+word_room _ phys bits rights aligned few are word_is more_is =
+    omega (
+      arith,
+      cond_most rights.write (2 ^ 1),
+      cond_most rights.user (2 ^ 2),
+      cond_not_most rights.exec (2 ^ 63),
+      aligned,
+      few,
+      are.low,
+      are.high,
+      word_is,
+      more_is,
+    )

@@ -7,7 +7,7 @@ use Rattle.std.proofs.lemmas.Bool.{cases_lt}
 use Rattle.vs_types.specs.Depth.{entry_bytes}
 use Rattle.vs_types.specs.Entry.{is_leaf, meaning}
 use Rattle.vs_types.specs.declared.entry.Meaning.TheVariants as entry
-use Rattle.nr_explain.specs.Facts.{IsLowestReservedBit}
+use Rattle.vs_types.specs.Bits.{IsLowestReservedBit}
 
 -- the lowest of some bits of a word, from 13 to below k, where one is set
 pub record IsLowest (word k : ℕ) (bit : ℕ) : Type 0 where
@@ -91,8 +91,3 @@ low_reserved (suc (suc (suc zero))) word part few is same =
     from_lowest 3 word (13 + trailing_zeros w64 part) leaf.0
     (lowest word 30 17 part same refl (omega (arith, leaf.1)) (omega arith) (omega arith) (omega arith))
 low_reserved (suc (suc (suc (suc level)))) word part few is same = absurd (omega arith)
-
--- the bytes of an entry, as they are shifted
-pub shift_is : (level : ℕ) → level ≤ 3 → 1 * 2 ^ (3 + 9 * level) % 18446744073709551616 ≡ entry_bytes level
-shift_is (suc (suc (suc (suc level)))) few = absurd (omega arith)
-shift_is _ few = refl

@@ -6,11 +6,11 @@ use Rattle.std.specs.Int.Bits.{bit_and, bit_xor}
 use Rattle.std.proofs.lemmas.Nat.Bits.{bit_at-lt, bit_at_and, bit_at_xor}
 use Rattle.vs_types.specs.Depth.{entry_bytes}
 use Rattle.vs_types.specs.Entry.{has_reserved, is_leaf, meaning, rights_of}
-use Rattle.vs_space.proofs.FlaggedWords.{said}
+use Rattle.vs_types.proofs.Placed.{said}
 use Rattle.vs_types.specs.declared.entry.Meaning.TheVariants as entry
 use Rattle.vs_types.specs.declared.page.Rights.{Rights}
 use Rattle.vs_types.specs.Page.{intersection}
-use Rattle.nrvs_plan_c.specs.Kept.{rights_at}
+use Rattle.vs_types.specs.Bits.{rights_at}
 
 -- two bits that are both set
 both_set : (x y : ℕ) → x < 2 → y < 2 → (min x y == 1) ≡ ((x == 1) && (y == 1))

@@ -1,9 +1,8 @@
 use Rattle.std.proofs.Common.{◌+◌, ap, ◌∙◌, arith}
 use Rattle.vs_types.specs.Entry.{meaning, leaf_word}
 use Rattle.vs_types.specs.Page.{level_of}
-use Rattle.vs_plan.proofs.Addresses.{word_room}
-use Rattle.vs_plan.proofs.Words.{page_reads}
-use Rattle.vs_plan.proofs.word.page_word.Goals as goal
+use Rattle.vs_types.proofs.BitWords.{page_reads, word_room}
+use Rattle.vs_types.proofs.entry.page_word.Goals as goal
 
 pub returns-clause-read_back : goal.returns-clause-read_back
 returns-clause-read_back c =
