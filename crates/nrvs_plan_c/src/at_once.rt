@@ -13,8 +13,9 @@ ghost use Rattle.nrvs_plan_c.specs.inside.End.{Stays};
 
 use crate::end::{End, end_ask, end_map, end_protect, end_remap, end_unmap};
 use crate::kept::{Plan, Target, Words};
-use crate::walk::{end_in, frame_at, has_other};
-use vs_plan::{are_bits, ends_beyond};
+use crate::walk::{end_in, frame_at};
+use vs_plan::{PlainWords, ends_beyond, has_other};
+use vs_types::are_bits;
 
 /// Whether the plan of a map was made.
 pub(crate) fn maps_at_once(
@@ -174,7 +175,7 @@ fn may_clear(frames: &[Words], first: u64, target: &Target, end: End) -> bool
         return true;
     }
     match frame_at(frames, first, end.number) {
-        Some(words) => has_other(words, end.index),
+        Some(words) => has_other(&mut PlainWords(&words.word), end.index),
         None => false,
     }
 }

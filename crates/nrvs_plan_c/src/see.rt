@@ -14,12 +14,12 @@ ghost use Rattle.nrvs_plan_c.specs.inside.Seen.{IsSeen};
 
 use crate::begin::start;
 use crate::codes::{BRIEF, DESCENT};
-use crate::down::{go_down, has_other};
+use crate::down::go_down;
 use crate::end::{End, end_ask, end_map, end_protect, end_remap, end_unmap};
 use crate::kept::{Plan, open};
 use crate::next::go_on;
 use crate::status::{PLANNED, SEE};
-use vs_plan::{FrameWords, Planner};
+use vs_plan::{FrameWords, Planner, has_other};
 use vs_types::index_at;
 
 /// Takes the words of the frame that is asked for, and reads none of them twice.

@@ -1,6 +1,5 @@
 //! The way of an address down to a table of level 1, over frames that lie one after another in memory.
-ghost use Rattle.std.specs.Prelude.{◌≡◌, ◌≢◌, ◌+◌, ◌-◌, ◌/◌, ◌%◌, ◌<◌, ◌≤◌, ◌^◌, ℕ, IfNone, IfSome, IsTrue, length, slice_index, slice_index_or};
-ghost use Rattle.vs_types.specs.declared.frame.TheConstants.{FRAME_WORDS};
+ghost use Rattle.std.specs.Prelude.{◌≡◌, ◌+◌, ◌-◌, ◌<◌, ◌≤◌, ◌^◌, IfNone, IfSome, IsTrue, length, slice_index_or};
 ghost use Rattle.vs_walk.specs.Memory.{Memory};
 ghost use Rattle.vs_plan.specs.Target.{frames_end};
 ghost use Rattle.nrvs_plan_c.specs.Direct.{HasFramesWithin, IsElsewhere};
@@ -10,7 +9,7 @@ ghost use Rattle.nrvs_plan_c.specs.inside.End.{IsAskable, IsEndOf};
 use crate::codes::depth_in;
 use crate::end::End;
 use crate::kept::{Target, Words};
-use vs_types::{FRAME_WORDS, all_allowed, index_at, is_link, narrowed};
+use vs_types::{all_allowed, index_at, is_link, narrowed};
 
 /// The end of the way of an address, where target and address may be asked for, and it leads to a table of level 1 by frames that all
 /// lie here.
@@ -90,22 +89,4 @@ pub(crate) fn frame_at<'a>(frames: &'a [Words], first: u64, number: u64) -> Opti
         return None;
     }
     frames.get((number - first) as usize)
-}
-
-/// Whether a table has a word other than 0 beside that at an index. In most the one next to it decides.
-pub(crate) fn has_other(words: &Words, index: usize) -> bool
-    requires { index < FRAME_WORDS }
-    ensures { IsTrue result
-        → (i : ℕ) × (i ≢ index) × (slice_index words.now.word i ≢ 0) }
-{
-    let beside = if index % 2 == 0 { index + 1 } else { index - 1 };
-    if words.word[beside] != 0 {
-        return true;
-    }
-    for i in 0..FRAME_WORDS {
-        if i != index && words.word[i] != 0 {
-            return true;
-        }
-    }
-    false
 }

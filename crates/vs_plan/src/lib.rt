@@ -16,6 +16,7 @@ pub mod flags;
 mod growth;
 mod join;
 pub mod laws;
+mod others;
 mod plan;
 mod planner;
 mod prune;
@@ -26,6 +27,7 @@ mod search;
 mod target;
 mod word;
 
+pub use others::has_other;
 pub use plan::{Fill, Flush, MOST_STORES, MOST_UNLINKED, Plan, Reply, Step, Store};
 pub use planner::{Asks, Phase, Planner};
 pub use reading::{FrameWords, PlainWords};

@@ -3,6 +3,7 @@ ghost use Rattle.std.specs.Prelude.{◌≡◌, ◌≢◌, ◌<◌, ℕ, IsTrue, 
 ghost use Rattle.vs_types.specs.declared.frame.TheConstants.{FRAME_WORDS};
 ghost use Rattle.vs_plan.specs.Changes.{larger, smaller};
 
+use crate::others::has_other;
 use crate::reading::FrameWords;
 use vs_types::{FRAME_WORDS, Size};
 
@@ -26,7 +27,7 @@ pub(crate) fn larger(size: Size) -> Size
     }
 }
 
-/// Whether each word of a frame but that at the index is 0. The one beside it is read first.
+/// Whether each word of a frame but that at the index is 0.
 pub(crate) fn is_alone<W: FrameWords>(words: &mut W, index: usize) -> bool
     requires in_range { index < FRAME_WORDS }
     requires unread { (i : ℕ) → i < FRAME_WORDS → i ≢ index → W.is_unread words.old i }
@@ -36,14 +37,5 @@ pub(crate) fn is_alone<W: FrameWords>(words: &mut W, index: usize) -> bool
     ensures other { IsFalse result
         → (i : ℕ) × (i ≢ index) × (slice_index (W.words words.old) i ≢ 0) }
 {
-    let beside = if index % 2 == 0 { index + 1 } else { index - 1 };
-    if words.read(beside) != 0 {
-        return false;
-    }
-    for i in 0..FRAME_WORDS {
-        if i != index && i != beside && words.read(i) != 0 {
-            return false;
-        }
-    }
-    true
+    !has_other(words, index)
 }

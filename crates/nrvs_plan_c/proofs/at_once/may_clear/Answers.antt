@@ -7,7 +7,7 @@ use Rattle.nrvs_plan_c.proofs.at_once.may_clear.Goals as goal
 
 pub returns-in-Some : goal.returns-in-Some
 returns-in-Some c = λ true memory address has at odd.
-    let other = c.has_other.ensures true in
+    let other = c.has_other.ensures.other true in
     let words = c.in-Some.words.now in
     inr (record {
       other = other.0;
