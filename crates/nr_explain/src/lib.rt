@@ -26,8 +26,7 @@ pub use search::replies::reply_to;
 pub use search::spaces::{answer_after, apply_place, last_look};
 pub use tables::dumps::{difference, explain_dump};
 pub use tables::paths::{
-    Target, another_way, entries_read, entry_at, find_way, way_to_frame,
-    way_to_reserved,
+    Target, another_way, entries_read, entry_at, find_way, way_to_frame, way_to_reserved,
 };
 pub use trace::all_dumps::{DumpExplanation, FullExplanation, explain_all_read};
 pub use trace::counts::Counts;

@@ -4,7 +4,7 @@ use Rattle.std.specs.Prelude.{cond}
 use Rattle.std.specs.Int.Bits.{bit_and, and_zero_r}
 use Rattle.std.proofs.lemmas.Nat.{and_block, and_mask}
 use Rattle.vs_types.specs.declared.page.Rights.{Rights}
-use Rattle.vs_types.specs.Bits.{unflagged, with_rights}
+use Rattle.vs_types.specs.Bits.{rights_bits, unflagged, with_rights}
 
 -- two parts of a word, and of a mask
 parted : (k word high low : ℕ) → low < 2 ^ k → word / 2 ^ k * 2 ^ k + word % 2 ^ k ≡ word → word % 2 ^ k < 2 ^ k
@@ -27,7 +27,7 @@ and_flags word =
 pub cleared_by : (word first number step : ℕ) → bit_and word 0 + first + number * step ≡ first + number * step
 cleared_by word first number step = ap (λ a. a + first + number * step) (and_zero_r word) ∙ omega arith
 
-pub allowed_by : (word bits number : ℕ) (rights : Rights) → bits ≡ cond rights.write 2 0 + cond rights.user 4 0 + cond rights.exec 0 (2 ^ 63)
+pub allowed_by : (word bits number : ℕ) (rights : Rights) → bits ≡ rights_bits rights
     → bit_and word 9223372036854775801 + bits + number * 0 ≡ with_rights word rights
 allowed_by word bits number rights are =
     ap (λ a. a + bits + number * 0) (and_rights word)

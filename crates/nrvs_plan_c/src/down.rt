@@ -11,7 +11,7 @@ ghost use Rattle.nrvs_plan_c.specs.declared.codes.TheConstants.{DESCENT};
 ghost use Rattle.nrvs_plan_c.specs.Kept.{IsSound, planner_in, request_in};
 
 use crate::kept::{Call, Plan};
-use vs_types::{is_link, narrowed};
+use vs_types::{address_bits, is_link, narrowed};
 
 /// Goes on to the table to which this word leads, which was read of these words, where the way doesn't end here, and no other word of the
 /// table is asked for. Whether it did: else nothing is changed.
@@ -44,7 +44,7 @@ pub(crate) fn go_down(plan: &mut Plan, word: u64) -> bool
     if !is_link(word) {
         return false;
     }
-    let address = word % (1 << 52);
+    let address = address_bits(word);
     if address >> plan.call.phys_bits != 0 {
         return false;
     }

@@ -20,7 +20,8 @@ use crate::told::Reply;
 use crate::written::{write_none, write_store};
 use vs_plan::ends_beyond;
 use vs_types::{
-    Page, Size, bits_in, narrowed, page_word, rights_at, with_address, with_rights,
+    Page, Size, bits_in, is_present, narrowed, page_address, page_word, rights_at, with_address,
+    with_rights,
 };
 
 /// The end of a way in a table of level 1.
@@ -42,14 +43,14 @@ impl End {
         ensures page { IsTrue result → self.word % 2 ≡ 1 }
         ensures none { IsFalse result → self.word % 2 ≡ 0 }
     {
-        self.word % 2 == 1
+        is_present(self.word)
     }
 
     /// Its physical address.
     fn physical(self) -> u64
         ensures { result ≡ self.word % 2 ^ 52 / 2 ^ 12 * 2 ^ 12 }
     {
-        self.word % (1 << 52) / 4096 * 4096
+        page_address(self.word)
     }
 
     /// The code of what it allows.

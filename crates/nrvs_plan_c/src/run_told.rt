@@ -1,5 +1,5 @@
 //! A range's planner as it is kept, and its runs in numbers.
-ghost use Rattle.std.specs.Prelude.{◌≡◌, ◌≢◌, ◌+◌, ◌*◌, ◌<◌, ◌≤◌, ◌^◌, ℕ, List, Option, cond};
+ghost use Rattle.std.specs.Prelude.{◌≡◌, ◌≢◌, ◌+◌, ◌*◌, ◌<◌, ◌≤◌, ◌^◌, ℕ, List, Option};
 ghost use Rattle.std.specs.Int.Bits.{bit_and};
 ghost use Rattle.vs_types.specs.Page.{bytes_of};
 ghost use Rattle.vs_walk.specs.Memory.{Memory};
@@ -17,13 +17,7 @@ use crate::range::Run;
 use crate::status::{ABSENT, BEYOND, GIVE, HARVEST, PLANNED, RUN, SEE};
 use crate::told::write;
 use vs_range::{Change, Forget, RangePlanner, RangeStep};
-use vs_types::Rights;
-
-/// Bits 1, 2 and 63 of an entry are its rights: all others.
-const BUT_RIGHTS: u64 = (1 << 63) - 7;
-
-/// Bits 5 and 6 of an entry are its flags: all others.
-const BUT_FLAGS: u64 = u64::MAX - 96;
+use vs_types::{BUT_FLAGS, BUT_RIGHTS, rights_bits};
 
 /// The range's planner that is kept.
 #[inline(never)]
@@ -130,17 +124,7 @@ fn numbers_of(change: Change) -> (u64, u64, u64)
     match change {
         Change::Write(first, step) => (0, first, step),
         Change::Clear => (0, 0, 0),
-        Change::Allow(rights) => (BUT_RIGHTS, bits_of(rights), 0),
+        Change::Allow(rights) => (BUT_RIGHTS, rights_bits(rights), 0),
         Change::Unflag => (BUT_FLAGS, 0, 0),
     }
-}
-
-/// The bits of rights, as an entry has them.
-fn bits_of(rights: Rights) -> u64
-    ensures { result ≡ cond rights.write 2 0 + cond rights.user 4 0 + cond rights.exec 0 (2 ^ 63) }
-{
-    let write = if rights.write { 2 } else { 0 };
-    let user = if rights.user { 4 } else { 0 };
-    let no_fetch = if rights.exec { 0 } else { 1 << 63 };
-    write + user + no_fetch
 }

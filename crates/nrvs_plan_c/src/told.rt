@@ -5,8 +5,8 @@ ghost use Rattle.nrvs_plan_c.specs.Told.{IsFillTold, IsTold, answer_numbers, bit
 
 use crate::codes::DONE;
 use crate::kept::Plan;
-use vs_plan::{ABOVE_FLAGS, BELOW_FLAGS, Fill, Flush, Reply as Outcome, Store};
-use vs_types::Answer;
+use vs_plan::{Fill, Flush, Reply as Outcome, Store};
+use vs_types::{Answer, flags_into};
 
 /// What came out in numbers: its code, and what it has; what it doesn't have is 0.
 #[repr(C)]
@@ -150,7 +150,5 @@ pub(crate) fn bits_again(plan: &Plan, index: usize, store: Store, found: u64) ->
     if plan.reply.code == DONE || index != 0 || (plan.unlinked_count != 0 && store.new != 0) {
         return plan.bits;
     }
-    plan.bits % BELOW_FLAGS
-        + found % ABOVE_FLAGS / BELOW_FLAGS * BELOW_FLAGS
-        + plan.bits / ABOVE_FLAGS * ABOVE_FLAGS
+    flags_into(found, plan.bits)
 }

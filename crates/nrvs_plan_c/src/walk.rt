@@ -9,7 +9,7 @@ ghost use Rattle.nrvs_plan_c.specs.inside.End.{IsAskable, IsEndOf};
 use crate::codes::depth_in;
 use crate::end::End;
 use crate::kept::{Target, Words};
-use vs_types::{all_allowed, index_at, is_link, narrowed};
+use vs_types::{all_allowed, index_at, is_link, linked_frame, narrowed};
 
 /// The end of the way of an address, where target and address may be asked for, and it leads to a table of level 1 by frames that all
 /// lie here.
@@ -41,7 +41,7 @@ pub(crate) fn end_in(frames: &[Words], first: u64, target: &Target, address: u64
             return None;
         }
         allowed = narrowed(allowed, word);
-        number = word % (1 << 52) / 4096;
+        number = linked_frame(word);
         level -= 1;
     }
     let Some(last) = frame_at(frames, first, number) else {

@@ -7,7 +7,9 @@ ghost use Rattle.vs_plan.specs.inside.Ended.{IsAtEnd, IsRightAt};
 use crate::plan::{Flush, Plan, Reply, Store};
 use crate::planner::Planner;
 use crate::request::ends_beyond;
-use vs_types::{Answer, Entry, Meaning, Rights, Size, bits_in, index_at, with_address, with_rights};
+use vs_types::{
+    Answer, Entry, Meaning, Rights, Size, bits_in, index_at, with_address, with_rights,
+};
 
 impl Planner {
     /// Lets the page at the end of the way lead to another physical address, with other rights, by one store.

@@ -1,5 +1,7 @@
-use Rattle.std.proofs.Common.{inr, refl, sym, ap, arith}
+use Rattle.std.proofs.Common.{ℕ, ◌/◌, inr, refl, sym, ap, ◌∙◌, arith}
 use Rattle.vs_types.specs.Depth.{index_at}
+use Rattle.vs_types.specs.Entry.{rights_of}
+use Rattle.vs_types.specs.declared.entry.Meaning.TheVariants as entry
 use Rattle.vs_walk.proofs.Walks.{few_levels}
 use Rattle.vs_plan.specs.Planner.{AwaitsWords}
 use Rattle.vs_plan.specs.Shown.{IsDescended}
@@ -30,7 +32,8 @@ returns-clause-shown c = λ did memory words shown read there.
     shown_on {stop = c.args.plan.now.way.stop} read descended.met descended.way there
     (ap (index_at c.args.plan.now.way.level) (sym (address_in c.args.plan.now.call)))
     (omega arith) (inr (refl, λ low. absurd (omega (arith, low, c.if-level-plan.false)))) (omega (arith, few, awaits.few)) (omega (arith, few, awaits.few))
-    awaits.some (c.is_link.ensures c.if-not-is_link.false c.args.plan.now.way.level (c.goes_on_below.ensures.some link))
+    awaits.some (c.is_link.ensures c.if-not-is_link.false c.args.plan.now.way.level (c.goes_on_below.ensures.some link)
+    ∙ ap (λ (n : ℕ). entry.Table (n / 4096) (rights_of c.args.word)) (sym c.address_bits-address.ensures))
     c.narrowed-plan.ensures (goes_down c.args.plan.now.way.phase c.requires.descent)
 
 pub returns-clause-link : goal.returns-clause-link

@@ -6,7 +6,8 @@ use Rattle.nrvs_plan_c.proofs.run_told.numbers_of.Goals as goal
 
 pub returns-in-Allow : goal.returns-in-Allow
 returns-in-Allow c = λ number word low.
-    allowed_by word c.bits_of.result number c.in-Allow.rights c.bits_of.ensures ∙ ap (λ (change : Change). word_after change number word) (sym c.in-Allow.is)
+    allowed_by word c.rights_bits.result number c.in-Allow.rights c.rights_bits.ensures
+    ∙ ap (λ (change : Change). word_after change number word) (sym c.in-Allow.is)
 
 pub returns-in-Unflag : goal.returns-in-Unflag
 returns-in-Unflag c = λ number word low.

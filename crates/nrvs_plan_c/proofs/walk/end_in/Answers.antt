@@ -1,4 +1,7 @@
-use Rattle.std.proofs.Common.{◌≡◌, ⊎_elim, subst, arith}
+use Rattle.std.proofs.Common.{◌≡◌, ℕ, ⊎_elim, ap, subst, sym, ◌∙◌, arith}
+use Rattle.std.specs.Prelude.{slice_index}
+use Rattle.vs_types.specs.Entry.{rights_of}
+use Rattle.vs_types.specs.declared.entry.Meaning.TheVariants as entry
 use Rattle.vs_plan.specs.Way.{IsWay}
 use Rattle.nrvs_plan_c.specs.Kept.{depth_in, target_of}
 use Rattle.vs_types.specs.Bits.{rights_at}
@@ -23,7 +26,9 @@ loop-level-preserved c =
           (frame_shown (target_of c.args.target.now) memory c.args.first c.loop-level.number c.args.frames.now has
           (c.are_within.ensures c.if-not-are_within.false)
           c.in-Some.words.now c.in-Some.ensures.there) c.index_at.ensures.is)
-          (c.is_link.ensures c.if-not-is_link.false c.loop-level.level (omega (arith, c.loop-level-test.true))) c.narrowed-allowed.ensures,
+          (c.is_link.ensures c.if-not-is_link.false c.loop-level.level (omega (arith, c.loop-level-test.true))
+          ∙ ap (λ (n : ℕ). entry.Table n (rights_of (slice_index c.in-Some.words.now.word c.index_at.result))) (sym c.linked_frame-number.ensures))
+          c.narrowed-allowed.ensures,
     )
 
 pub returns-clause-end : goal.returns-clause-end
