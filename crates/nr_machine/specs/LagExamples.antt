@@ -14,7 +14,7 @@ update = record { first = 1; second = 2 }
 abbrev pub reply : Reply
 reply = record { first = 0; second = 0 }
 
--- a new machine of one of two nodes. What its arrays have behind their counts is all the same
+-- a new machine of one of two nodes. What its arrays have behind their counts doesn't matter
 abbrev pub new_machine : ℕ → Node
 new_machine n = record {
   applied = 0;
@@ -94,7 +94,7 @@ other_takes =
     ∷ Gives 0 (Value 256) other_got ∷ Gives 0 (Value 0) other_took ∷ Gives 0 (Replied reply) other_applied
     ∷ Gives 0 (Value 0) other_flushed ∷ []
 
--- it looks again, and how many entries each node has taken: node 1 lags
+-- it loads the head again, and how many entries each node has taken: node 1 lags
 abbrev other_scans : Node
 other_scans = record other_flushed { ring = 1; phase = 2 }
 

@@ -120,7 +120,8 @@ pub fn calls_can_end()
 {}
 
 /// What is asked of callers can also be met where a node lags. An update is appended at node 1 and not taken there, so that node 0, which
-/// has 16 updates to append, learns that node 1 lags. Once node 1 has taken its entry, node 0 stores the words of its updates.
+/// has 16 updates to append, learns that node 1 lags. Once node 1 has taken its entry, node 0 is asked to store the first word of its
+/// first update.
 pub fn calls_can_wait()
     ensures new { (n : ℕ) → n < 2 → IsNew 2 n (new_machine n) }
     ensures may { MayMoveAll 2 (at_start 2 new_machine) lagging }
