@@ -1,4 +1,4 @@
--- The pages that addresses may be left to look as, which are listed for releases.
+-- The pages that addresses may still be found to look as, which are listed for releases.
 use Rattle.std.proofs.Common.{◌≡◌, ℕ, ◌+◌, ◌*◌, ◌≤◌, ◌⊎◌, inl, inr, false, List, [], ◌∷◌, ◌++◌, length, slice_get, Option, Some, Contains, refl, sym, ap, ◌∙◌, subst}
 use Rattle.std.proofs.Common.{arith}
 use Rattle.std.proofs.lemmas.Option.{slice_get_within}

@@ -37,8 +37,8 @@ abbrev pub IsFault : Touch → Type 0
 IsFault touch = (code : ℕ) × (touch.answer ≡ answers.Fault code)
 
 -- what excuses a right touch, where the segments before have so many entries. None is needed where it is answered as after the newest entries that it may
--- see. It is right since an update of its address is open; or it faults by rights that were kept, since it could be answered so at no moment that has each
--- answered update of the address; or since its replica's table lags
+-- see. Open: an update of its address is open. Kept: it faults by rights that were kept, and at no moment that has each answered update is it answered so.
+-- Lagging: it faults since its replica's table lags
 abbrev pub IsExcusedBy : ℕ → Space → Recording → Touch → Excuse → Type 0
 IsExcusedBy before start trace touch excuses.None = IsAnsweredAsNow start trace touch
 IsExcusedBy before start trace touch excuses.Open =

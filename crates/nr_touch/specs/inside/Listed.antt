@@ -1,4 +1,4 @@
--- The pages that addresses may be left to look as, which are listed for releases. Public clauses cite no more of them than AreListed and HasRoom.
+-- The pages that addresses may still be found to look as, which are listed for releases. Public clauses cite no more of them than AreListed and HasRoom.
 use Rattle.std.specs.Prelude.{◌≡◌, ℕ, ◌+◌, ◌*◌, ◌<◌, ◌≤◌, length, slice_get, Option, Some, Contains}
 use Rattle.std.specs.BTreeMap.{get}
 use Rattle.vs_types.specs.Page.{bytes_of}
@@ -14,7 +14,7 @@ use Rattle.nr_touch.specs.declared.releases.overs.Overs.{Overs}
 abbrev pub HasRoom : Lingering → Type 0
 HasRoom lingering = (page : Page) → Contains lingering.pages.items page → IsRoomy page
 
--- a page of this place has a number, under which it has its rows. If it is over in a block for a memory that has this frame of it, its number lies behind
+-- a page of this place has a number, under which it has its rows. What was found to be over there for a memory with this frame has smaller numbers
 pub record IsListed (lingering : Lingering) (gone : Overs) (page : Page) (frame : ℕ) : Type 0 where
   pub number : ℕ
   pub own : Page

@@ -1,4 +1,5 @@
-//! The pages that addresses may be left to look as by updates of earlier segments, by the memory that they lead into.
+//! Pages that addresses may still be found to look as, since updates of earlier segments left them; listed by the memory that they lead
+//! into.
 
 ghost use Rattle.std.specs.Prelude.{◌≡◌, ℕ, ◌≤◌, ◌⊎◌, ◌++◌, false, length, slice_get, Contains, IfOk, IfSome, IsTrue, List, OnOk, Option, Some};
 ghost use Rattle.vs_types.specs.Space.{Space};
@@ -27,7 +28,7 @@ use std::alloc::Global;
 use std::collections::BTreeSet;
 use vs_types::{Memory, Page};
 
-/// Pages that addresses may be left to look as: a list of them, and their numbers in it by the memory that they lead into.
+/// Pages that addresses may still be found to look as: a list of them, and their numbers in it by the memory that they lead into.
 #[derive(Debug, Drop)]
 pub(crate) struct Lingering {
     pub(crate) index: Index,
@@ -39,7 +40,7 @@ pub(crate) struct Lingering {
 pub(crate) struct Indexes {
     /// The pages that are there now, by the memory that they lead into.
     pub(crate) pages: Index,
-    /// Those that addresses may be left to look as.
+    /// Those that addresses may still be found to look as.
     pub(crate) lingering: Lingering,
     /// How many of the first of these, if they are of a block, lead no more to a memory.
     pub(crate) gone: Overs,
