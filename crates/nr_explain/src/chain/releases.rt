@@ -21,13 +21,13 @@ use crate::chain::evidence::{Leading, Moment, OpenUpdate, Reach, WhyWrong, Wrong
 use crate::chain::origins::is_same;
 use crate::chain::progress::Progress;
 use crate::chain::touches::looks_before;
-use crate::chain::windows::{Window, window_of};
+use crate::chain::windows::{Window, window_in};
 use crate::search::events::call_at;
 use crate::search::replies::reply_to;
 use crate::search::spaces::{apply_place, space_from, update_at};
 use crate::trace::evidence::{Given, RecordedReply};
 use nr_audit::copy;
-use nr_touch::{Release, Tail, reached, replies};
+use nr_touch::{Release, Tail, reached};
 use nr_trace::Trace;
 use std::alloc::Global;
 use vs_plain::PlainSpace;
@@ -233,17 +233,7 @@ fn reach_from(
     ensures { IfOk result (FindsReach (left_seen (all_states last.now)) first.now.space segment.now
         event given address) }
 {
-    let replies = replies(alloc, segment)?;
-    let space = copy(alloc, segment.layout().tables(), first)?;
-    let window = window_of(
-        segment,
-        replies.as_slice(),
-        space,
-        address,
-        event,
-        event,
-        true,
-    )?;
+    let window = window_in(alloc, segment, first, address, event, event, true)?;
     let own = reach_within(alloc, segment, first, address, window, given)?;
     match own {
         Some(reach) => Ok(Some(reach)),

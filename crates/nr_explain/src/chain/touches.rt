@@ -2,11 +2,13 @@
 
 ghost use Rattle.std.specs.Prelude.{◌≡◌, ◌≢◌, ◌<◌, ◌≤◌, ◌⊎◌, ◌↔◌, ℕ, Bool, IfOk, IfSome, IsTrue, false, filter, length};
 ghost use Rattle.vs_types.specs.Space.{Space};
+ghost use Rattle.vs_types.specs.Query.{IsQuery};
 ghost use Rattle.nr_audit.specs.Verdict.{space_of};
 ghost use Rattle.nr_touch.specs.Looks.{AreLooksLeft};
 ghost use Rattle.nr_explain.specs.ChainEvidence.{fewest, found_page, AreLooks, IsLater, IsMissed, IsOpenBefore, IsStaleTouch};
 ghost use Rattle.nr_explain.specs.ChainFacts.{IsFaultOfNoPage, IsLagOf};
 ghost use Rattle.nr_explain.specs.Facts.{asked_address};
+ghost use Rattle.nr_explain.specs.Nearest.{IsNearest};
 ghost use Rattle.nr_explain.specs.inside.Firsts.{AreEarlierLeft, IsTouchToShow};
 ghost use Rattle.nr_explain.specs.inside.Reading.{all_states, left_seen, space_seen, FitsSegment, HasSoundTail};
 ghost use Rattle.nr_explain.specs.inside.Windows.{is_found, HasReached, IsWindowOf};
@@ -15,7 +17,7 @@ use crate::calls::answers::asked_address;
 use crate::chain::evidence::{Lag, MissedUpdate, Moment, OpenUpdate, StaleTouch};
 use crate::chain::origins::is_same;
 use crate::chain::progress::Progress;
-use crate::chain::windows::{Window, is_mapped, window_of};
+use crate::chain::windows::{Window, is_mapped, window_in};
 use crate::search::events::call_at;
 use crate::search::known::known_at;
 use crate::search::nearest::nearest;
@@ -24,7 +26,6 @@ use crate::search::spaces::{apply_place, update_at};
 use crate::trace::evidence::{PlacedUpdate, RecordedCall};
 use crate::trace::nearby::RightAfter;
 use nr_audit::copy;
-use nr_touch::replies;
 use nr_trace::Trace;
 use std::alloc::Global;
 use vs_plain::PlainSpace;
@@ -223,6 +224,25 @@ fn later_update(segment: &Trace, window: Window, right: RightAfter) -> Option<Pl
     }
 }
 
+/// After how many entries the space answers a request so, where the segment begins with this space: nearest below a window, and nearest
+/// above it. Allocates memory for a copy of the space, and for others when that one is freed.
+fn nearest_to(
+    alloc: Global,
+    segment: &Trace,
+    first: &PlainSpace,
+    request: Request,
+    told: Answer,
+    window: Window,
+) -> Result<RightAfter, Memory>
+    requires space { first.now ≡ space_of segment.now.layout first.now.space }
+    requires fits { IsQuery segment.now.layout.depth request }
+    ensures { IfOk result
+        (IsNearest first.now.space segment.now request told window.first window.last) }
+{
+    let begun = copy(alloc, segment.layout().tables(), first)?;
+    nearest(segment, begun, request, told, window.first, window.last)
+}
+
 /// A stale touch, where the segment begins with this space: from which moments it may be answered, how its address looked at these, which
 /// update it should have seen, which was open then, which was made later, and after which entries its answer would be right. Allocates a
 /// table of four bytes for each event, memory for a copy of the space, and for others when that one is freed.
@@ -249,33 +269,22 @@ pub(crate) fn stale_touch(
     let address = asked_address(call.request);
     let lag = lag_of(segment, &call, reply.answer);
     let with_page = lag.is_none();
-    let tables = segment.layout().tables();
-    let replies = replies(alloc, segment)?;
-    let space = copy(alloc, tables, first)?;
-    let window = window_of(
+    let window = window_in(
+        alloc,
         segment,
-        replies.as_slice(),
-        space,
+        first,
         address,
         index,
         reply.event,
         with_page,
     )?;
-    let again = copy(alloc, tables, first)?;
+    let again = copy(alloc, segment.layout().tables(), first)?;
     let from = with_lag(window, lag);
     let looks = looks_in(alloc, segment, again, address, from)?;
     let earlier = earlier_looks(alloc, last, address, window.first, with_page)?;
     let missed = missed_update(segment, window.first);
     let still_open = open_update(segment, window);
-    let begun = copy(alloc, tables, first)?;
-    let right = nearest(
-        segment,
-        begun,
-        call.request,
-        reply.answer,
-        window.first,
-        window.last,
-    )?;
+    let right = nearest_to(alloc, segment, first, call.request, reply.answer, window)?;
     let later = later_update(segment, window, right);
     Ok(StaleTouch {
         call,

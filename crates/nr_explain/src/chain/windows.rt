@@ -12,7 +12,10 @@ ghost use Rattle.nr_explain.specs.inside.Windows.{EndsBetween, IsTakenLook, IsWi
 
 use crate::chain::origins::is_same;
 use crate::search::spaces::apply_place;
+use nr_audit::copy;
+use nr_touch::replies;
 use nr_trace::Trace;
+use std::alloc::Global;
 use vs_plain::PlainSpace;
 use vs_plain::laws::pages_are_a_space;
 use vs_types::{Answer, Memory, Rights, Size};
@@ -156,7 +159,7 @@ fn narrow(window: Window, place: u32, ends: bool, is_over: bool, is_later: bool)
 
 /// From how many entries to how many a touch of an address may be answered that is made and answered at these events, where the segment
 /// begins with this space and these are its first replies: a touch that finds a page, or one that finds none.
-pub(crate) fn window_of(
+fn window_of(
     segment: &Trace,
     replies: &[u32],
     start: PlainSpace,
@@ -190,4 +193,32 @@ pub(crate) fn window_of(
         look = then;
     }
     Ok(window)
+}
+
+/// The same where the segment begins with a space that stays. Allocates a table of four bytes for each event, and memory for a copy of the
+/// space, and frees both.
+pub(crate) fn window_in(
+    alloc: Global,
+    segment: &Trace,
+    first: &PlainSpace,
+    address: u64,
+    made: u32,
+    answered: u32,
+    with_page: bool,
+) -> Result<Window, Memory>
+    requires { first.now ≡ space_of segment.now.layout first.now.space }
+    ensures { IfOk result
+        (IsWindowOf first.now.space segment.now address made answered with_page) }
+{
+    let replies = replies(alloc, segment)?;
+    let space = copy(alloc, segment.layout().tables(), first)?;
+    window_of(
+        segment,
+        replies.as_slice(),
+        space,
+        address,
+        made,
+        answered,
+        with_page,
+    )
 }

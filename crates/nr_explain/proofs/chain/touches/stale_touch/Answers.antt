@@ -4,7 +4,6 @@ use Rattle.vs_plain.specs.Plain.{BoundedSpace}
 use Rattle.nr_trace.specs.Calls.{IsCall}
 use Rattle.nr_explain.specs.ChainEvidence.{fewest, found_page, AreLooks, IsLater, IsMissed, IsOpenBefore}
 use Rattle.nr_explain.specs.Facts.{asked_address}
-use Rattle.nr_explain.specs.Nearest.{IsNearest}
 use Rattle.nr_explain.specs.inside.Windows.{IsWindowOf}
 use Rattle.nr_explain.proofs.Answering.{none_open, of_touch, touch_asks, touch_is_call}
 use Rattle.nr_explain.proofs.EarlierLooks.{earlier_at, sound_tail}
@@ -34,19 +33,19 @@ looks_in-requires-clause-within c =
 
 pub missed_update-missed-requires : goal.missed_update-missed-requires
 missed_update-missed-requires c =
-    (c.in_ok-space.space.space, c.asked_address-address.result, c.args.index, c.is_none-with_page.result, c.in_ok-window.ensures.reached)
+    (c.args.first.now.space, c.asked_address-address.result, c.args.index, c.is_none-with_page.result, c.in_ok-window.ensures.reached)
 
 pub open_update-still_open-requires : goal.open_update-still_open-requires
 open_update-still_open-requires c =
-    (c.in_ok-space.space.space, c.asked_address-address.result, c.args.index, c.in-Some.reply.event, c.is_none-with_page.result, c.in_ok-window.ensures)
+    (c.args.first.now.space, c.asked_address-address.result, c.args.index, c.in-Some.reply.event, c.is_none-with_page.result, c.in_ok-window.ensures)
 
 pub later_update-later-requires-clause-window : goal.later_update-later-requires-clause-window
 later_update-later-requires-clause-window c =
-    (c.in_ok-space.space.space, c.asked_address-address.result, c.args.index, c.in-Some.reply.event, c.is_none-with_page.result, c.in_ok-window.ensures)
+    (c.args.first.now.space, c.asked_address-address.result, c.args.index, c.in-Some.reply.event, c.is_none-with_page.result, c.in_ok-window.ensures)
 
 pub later_update-later-requires-clause-right : goal.later_update-later-requires-clause-right
 later_update-later-requires-clause-right c =
-    above_within c.in_ok-begun.begun.space c.args.segment.now c.call_at-call.result.request c.in-Some.reply.answer c.in_ok-window.window.first
+    above_within c.args.first.now.space c.args.segment.now c.call_at-call.result.request c.in-Some.reply.answer c.in_ok-window.window.first
     c.in_ok-window.window.last c.in_ok-right.right c.in_ok-right.ensures
 
 pub returns-clause-is : goal.returns-clause-is
@@ -60,12 +59,9 @@ returns-clause-is c =
     let window = c.in_ok-window.window in
     let first = c.in-Some.ensures in
     let names = first.1 ∙ sym event in
-    let here : c.in_ok-space.space.space ≡ start = ap (λ (s : BoundedSpace). s.space) c.in_ok-space.ensures in
     let again : c.in_ok-again.again.space ≡ start = ap (λ (s : BoundedSpace). s.space) c.in_ok-again.ensures in
-    let begun : c.in_ok-begun.begun.space ≡ start = ap (λ (s : BoundedSpace). s.space) c.in_ok-begun.ensures in
     let found = c.is_none-with_page.result in
-    let is : IsWindowOf start segment address c.args.index reply.event found window =
-    subst (λ (s : Space). IsWindowOf s segment address c.args.index reply.event found window) here c.in_ok-window.ensures in
+    let is : IsWindowOf start segment address c.args.index reply.event found window = c.in_ok-window.ensures in
     let kind : found ≡ found_page c.lag_of-lag.result = found_so c.lag_of-lag.result found c.is_none-with_page.ensures in
     let at = c.asked_address-address.ensures in
     let looks = subst (λ (s : Space). AreLooks s segment address c.with_lag-from.result.first c.with_lag-from.result.last c.in_ok-looks.looks.items) again
@@ -100,8 +96,7 @@ returns-clause-is c =
           (c.open_update-still_open.ensures start address c.args.index reply.event found is)));
       later = subst (λ (a : ℕ). IsLater start segment a reply.event window.last c.in_ok-right.right.behind c.later_update-later.result) at
           (c.later_update-later.ensures start address c.args.index reply.event found is);
-      right = subst (λ (s : Space). IsNearest s segment call.request reply.answer window.first window.last c.in_ok-right.right) begun
-          c.in_ok-right.ensures;
+      right = c.in_ok-right.ensures;
     }
 
 pub returns-clause-left : goal.returns-clause-left
