@@ -23,14 +23,14 @@ usual_text (faults.SharedFrame replica number) = codes "a table that is linked a
 usual_text (faults.ReservedBit replica number index) =
     codes "a large page made of a frame that isn't its first: bits below its size are set"
 usual_text (faults.StrayFrame replica number) = codes "a table that was unlinked, and not freed"
-usual_text (faults.Differs replica address) = codes "tables that have other pages or rights than the calls were answered"
+usual_text (faults.Differs replica address) = codes "tables with other pages or rights than the answers say"
 usual_text (faults.StartMissing number) =
     codes "a table that was freed while its parent's entry stayed, or a start that was copied while a thread changed the tables"
 usual_text (faults.StartShared number) = codes "a table that is linked at two entries, on purpose or not"
 usual_text (faults.StartReserved number index) =
     codes "a large page made of a frame that isn't its first, or a start that isn't the page table's"
 usual_text (faults.StartStray number) = codes "a table that was unlinked, and not freed"
-usual_text (faults.StartBeyond base) = codes "a page of memory that the processor hasn't"
+usual_text (faults.StartBeyond base) = codes "a page at memory that the processor doesn't have"
 usual_text (faults.StartDiffers address) =
     codes "a start that was copied while a thread still changed the tables, or updates that weren't recorded"
 usual_text (faults.Stale call) = codes "an update that was answered before the TLBs were flushed"

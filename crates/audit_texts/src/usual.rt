@@ -39,14 +39,13 @@ pub(crate) fn usual_text(fault: Fault) -> &'static str
             "a large page made of a frame that isn't its first: bits below its size are set",
         Fault::StrayFrame(_, _) | Fault::StartStray(_) =>
             "a table that was unlinked, and not freed",
-        Fault::Differs(_, _) =>
-            "tables that have other pages or rights than the calls were answered",
+        Fault::Differs(_, _) => "tables with other pages or rights than the answers say",
         Fault::StartMissing(_) =>
             "a table that was freed while its parent's entry stayed, or a start that was copied while a thread changed the tables",
         Fault::StartShared(_) => "a table that is linked at two entries, on purpose or not",
         Fault::StartReserved(_, _) =>
             "a large page made of a frame that isn't its first, or a start that isn't the page table's",
-        Fault::StartBeyond(_) => "a page of memory that the processor hasn't",
+        Fault::StartBeyond(_) => "a page at memory that the processor doesn't have",
         Fault::StartDiffers(_) =>
             "a start that was copied while a thread still changed the tables, or updates that weren't recorded",
         Fault::Stale(_) => "an update that was answered before the TLBs were flushed",
