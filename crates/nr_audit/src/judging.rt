@@ -15,7 +15,7 @@ ghost use Rattle.nr_audit.specs.Headline.{AreRightWith, HasFittingDumps, IsSpell
 ghost use Rattle.nr_audit.specs.Met.{HasMet};
 ghost use Rattle.nr_audit.specs.Start.{begins_in};
 ghost use Rattle.nr_joined.specs.Run.{Run};
-ghost use Rattle.nr_touch.specs.Tails.{IsSoundTail, IsTailOf};
+ghost use Rattle.nr_touch.specs.Tails.{IsSoundTail, IsTailOf, KeepsChanges};
 ghost use Rattle.nr_audit.specs.Segments.{run_after, FitsPast, IsBehind, IsKept, IsRightAfter};
 ghost use Rattle.nr_audit.specs.Verdict.{IfYes, IsVerdictOf, IsVerdictOn};
 
@@ -87,6 +87,8 @@ pub fn judge_segment(
         (λ right. IfSome right.2 (HasMet run (begins_in run segment.now) segment.now)) }
     ensures counted { IfOk result (λ right. is_some right.2 ≡ counts) }
     ensures fits { IfOk result (λ right. FitsPast segment.now.layout right.1) }
+    ensures changes { IfSome before
+        (λ past. IfOk result (λ right. KeepsChanges past.tail right.1.tail)) }
     ensures right { (run : Option Run) → IsBehind run before segment.now
         → IfOk result (λ right. IsRightAfter run segment.now right.0) }
     ensures first { (run : Option Run) → IsBehind run before segment.now

@@ -4,7 +4,7 @@ ghost use Rattle.std.specs.Prelude.{◌≡◌, is_some, IfOk, IfErr, IfSome, OnO
 ghost use Rattle.vs_types.specs.Refusal.{IfRefused};
 ghost use Rattle.nr_trace.specs.Orders.{recorded_order, space_from};
 ghost use Rattle.nr_joined.specs.Run.{Run, run_with};
-ghost use Rattle.nr_touch.specs.Tails.{GoesOn, IsSoundTail, IsTailOf};
+ghost use Rattle.nr_touch.specs.Tails.{GoesOn, IsSoundTail, IsTailOf, KeepsChanges};
 ghost use Rattle.nr_audit.specs.Met.{HasMet};
 ghost use Rattle.nr_audit.specs.Touches.{HasRightTouches};
 ghost use Rattle.nr_audit.specs.Verdict.{space_of};
@@ -65,6 +65,7 @@ pub(crate) fn search(
         (λ right. IfSome right.2 (HasMet before start.space trace.now)) }
     ensures counted { IfOk result (λ right. is_some right.2 ≡ counts) }
     ensures left { IfOk result (λ right. IsSoundTail right.1.tail) }
+    ensures changes { IfOk result (λ right. KeepsChanges tail right.1.tail) }
     ensures first { (before : Option Run) → IsTailOf before tail
         → GoesOn before trace.now start.space
         → IfErr result (IfRefused (IsFirstBehind before start.space trace.now)) }

@@ -4,7 +4,7 @@ ghost use Rattle.std.specs.Prelude.{◌≡◌, ◌↔◌, ◌+◌, ◌^◌, ◌<
 ghost use Rattle.std.specs.Prelude.{is_some, option_and_then, option_map, slice_get, Option, Some};
 ghost use Rattle.nr_trace.specs.Laws.{HasCleanLog};
 ghost use Rattle.nr_joined.specs.Run.{Run, run_with};
-ghost use Rattle.nr_touch.specs.Tails.{GoesOn, IsSoundTail, IsTailOf};
+ghost use Rattle.nr_touch.specs.Tails.{GoesOn, IsSoundTail, IsTailOf, KeepsChanges};
 ghost use Rattle.nr_audit.specs.Verdict.{space_of};
 ghost use Rattle.nr_audit.specs.Releases.{HasRightReleases};
 ghost use Rattle.nr_audit.specs.Met.{HasMet};
@@ -289,6 +289,7 @@ pub(crate) fn stale_touch(
         → GoesOn before segment.now start.space → HasCleanLog segment.now → IfOk result
         (λ found. IsTailOf (Some (run_with before start.space segment.now)) found.tail) }
     ensures sound { IfOk result (λ found. IsSoundTail found.tail) }
+    ensures changes { IfOk result (λ found. KeepsChanges tail found.tail) }
     ensures start { IfOk result (λ found. found.start ≡ start) }
 {
     pages_are_a_space(&start);
@@ -298,7 +299,7 @@ pub(crate) fn stale_touch(
             stale: None,
             reachable: None,
             met,
-            tail,
+            tail: tail.unchanged(),
             start,
         });
     }

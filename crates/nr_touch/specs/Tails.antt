@@ -1,5 +1,5 @@
 -- What a run leaves for the touches of later segments: how addresses may still be found to look.
-use Rattle.std.specs.Prelude.{◌≡◌, ℕ, ◌+◌, ◌%◌, ◌<◌, ◌≤◌, ◌^◌, ◌↔◌, ◌⊎◌, ◌&&◌, Bool, List, [], ◌∷◌, length, slice_get, false, Option, None, Some, ⊤}
+use Rattle.std.specs.Prelude.{◌≡◌, ℕ, ◌+◌, ◌%◌, ◌<◌, ◌≤◌, ◌^◌, ◌↔◌, ◌⊎◌, ◌&&◌, Bool, List, [], ◌∷◌, length, slice_get, take, false, Option, None, Some, ⊤}
 use Rattle.std.specs.Prelude.{Contains, IfSome, IsTrue}
 use Rattle.vs_types.specs.Page.{bytes_of, covers}
 use Rattle.vs_types.specs.Space.{Space}
@@ -79,6 +79,10 @@ pub record IsTailOfRun (run : Run) (tail : Tail) : Type 0 where
 abbrev pub GoesOn : Option Run → Recording → Space → Type 0
 GoesOn None segment start = ⊤
 GoesOn (Some run) segment start = (start ≡ end_of run) × (segment.layout ≡ run.trace.layout)
+
+-- the changes that are said to be kept are those that were there before
+abbrev pub KeepsChanges : Tail → Tail → Type 0
+KeepsChanges before after = take after.kept after.changes.items ≡ take after.kept before.changes.items
 
 -- what is left behind a run; behind none nothing is left, and no index is built
 abbrev pub IsTailOf : Option Run → Tail → Type 0

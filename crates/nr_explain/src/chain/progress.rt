@@ -3,7 +3,7 @@
 ghost use Rattle.std.specs.Prelude.{◌≡◌, ◌<◌, IfOk, IfSome, None, count_by, length, option_map};
 ghost use Rattle.nr_trace.specs.Laws.{HasCleanLog};
 ghost use Rattle.nr_trace.specs.Orders.{recorded_order, space_from};
-ghost use Rattle.nr_touch.specs.Tails.{HasIndexes, IsSoundTail};
+ghost use Rattle.nr_touch.specs.Tails.{HasIndexes, IsSoundTail, KeepsChanges};
 ghost use Rattle.nr_audit.specs.Verdict.{space_of};
 ghost use Rattle.nr_audit.specs.Start.{first_space};
 ghost use Rattle.nr_explain.specs.Progress.{is_release, is_there, is_touch, nothing_yet, sums_after};
@@ -138,33 +138,57 @@ fn sums_after(sums: Sums, segment: &Trace, order: &Order, met: Met, size: usize)
     }
 }
 
-/// The space with which a segment begins, with whose start nothing is wrong, and that with which the chain begins, where its first segment
-/// has a start. Of a first segment it allocates memory for both, and for two checks of the start.
-fn spaces_before(
-    alloc: Global,
-    last: Option<Progress>,
-    segment: &Trace,
-) -> Result<(PlainSpace, Option<PlainSpace>), Memory>
+/// What is there before a segment goes on.
+#[derive(Drop)]
+struct Before {
+    /// The space with which it begins.
+    space: PlainSpace,
+    /// What the segments before leave, if there are any.
+    tail: Option<Tail>,
+    /// The space with which the chain begins, where its first segment has a start.
+    began: Option<PlainSpace>,
+}
+
+/// What is there before a segment with whose start nothing is wrong. Of a first segment it allocates memory for both spaces, and for two
+/// checks of the start.
+fn begin_behind(alloc: Global, last: Option<Progress>, segment: &Trace) -> Result<Before, Memory>
     requires fits { IfSome last (FitsSegment segment.now) }
     requires well { BeginsWell last segment.now }
-    ensures space { IfOk result (λ spaces. spaces.0 ≡ space_of segment.now.layout
+    ensures space { IfOk result (λ before. before.space ≡ space_of segment.now.layout
         (first_space (space_seen (all_states last)) segment.now)) }
-    ensures began { IfOk result (λ spaces.
-        option_map (λ space. space.space) spaces.1 ≡ began_seen (all_states last) segment.now) }
+    ensures tail { IfOk result (λ before. before.tail ≡ option_map (λ came. came.tail) last) }
+    ensures began { IfOk result (λ before.
+        option_map (λ space. space.space) before.began ≡ began_seen (all_states last) segment.now) }
 {
     match last {
-        Some(came) => Ok((came.space, came.began)),
+        Some(came) => {
+            let Progress {
+                space,
+                tail,
+                began,
+                ..
+            } = came;
+            Ok(Before {
+                space,
+                tail: Some(tail),
+                began,
+            })
+        }
         None => {
             let began = start_space(alloc, segment)?;
             let space = begin_first(alloc, segment)?;
-            Ok((space, began))
+            Ok(Before {
+                space,
+                tail: None,
+                began,
+            })
         }
     }
 }
 
-/// What is come to with a segment more, of which this is the order and so much is counted, which leaves this, and which so many bytes spell, by a copy of
-/// what it leaves; and what it leaves. It allocates two spaces where the segment is the first, and memory for the pages that its log maps, the
-/// changes that its updates make, and the copy.
+/// What is come to with a segment more, of which this is the order and so much is counted, which leaves this, and which so many bytes
+/// spell, by a copy of what it leaves; and what it leaves. It allocates two spaces where the segment is the first, and memory for the pages
+/// that its log maps, the changes that its updates make, and what the copy doesn't have of the segments before.
 pub(crate) fn go_on(
     alloc: Global,
     last: Option<Progress>,
@@ -183,6 +207,7 @@ pub(crate) fn go_on(
         segment.now.log) }
     requires index { HasIndexes after.tail after.space.space }
     requires sound { IsSoundTail after.tail }
+    requires kept { IfSome last (λ came. KeepsChanges came.tail after.tail) }
     ensures layout { IfOk result (λ done. done.0.layout ≡ segment.now.layout) }
     ensures space { IfOk result (λ done. done.0.space ≡ after.space) }
     ensures tail { IfOk result (λ done. IsCopyOf after.tail done.0.tail) }
@@ -195,10 +220,15 @@ pub(crate) fn go_on(
 {
     let sums = sums_of(&last);
     let layout = segment.layout();
-    let (first, began) = spaces_before(alloc, last, segment)?;
+    let before = begin_behind(alloc, last, segment)?;
+    let Before {
+        space: first,
+        tail,
+        began,
+    } = before;
     let space = space_after(alloc, segment, first)?;
     let sums = sums_after(sums, segment, order, met, size);
-    let left = after.tail.copy(alloc)?;
+    let left = after.tail.copy(alloc, tail)?;
     let Past { space: end, tail } = after;
     let came = Progress {
         layout,

@@ -1,10 +1,10 @@
 //! How an address may still be found to look behind some segments.
 
-ghost use Rattle.std.specs.Prelude.{◌≡◌, ◌↔◌, ◌∷◌, ℕ, reverse, IfOk, IfSome, IsTrue, List, Option};
+ghost use Rattle.std.specs.Prelude.{◌≡◌, ◌↔◌, ◌∷◌, ◌++◌, ◌≤◌, ℕ, drop, length, reverse, take, IfOk, IfSome, IsTrue, [], List, None, Option};
 ghost use Rattle.vs_types.specs.Page.{covers};
 ghost use Rattle.nr_joined.specs.Run.{Run, end_of};
 ghost use Rattle.nr_touch.specs.Looks.{is_ended, looks_left, AreLooksLeft};
-ghost use Rattle.nr_touch.specs.Tails.{AreSound, HasIndexes, IsSoundLeft, IsTailOf, IsTailOfRun};
+ghost use Rattle.nr_touch.specs.Tails.{AreSound, HasIndexes, IsSoundLeft, IsTailOf, IsTailOfRun, KeepsChanges};
 ghost use Rattle.nr_touch.specs.inside.Changes.{page_before};
 ghost use Rattle.nr_touch.specs.inside.Lefts.{AreEndedBy};
 ghost use Rattle.nr_touch.specs.declared.touches.tail.Left.{Left as LeftRow};
@@ -98,14 +98,42 @@ fn looks_of(alloc: Global, changes: &[Left], address: u64) -> Result<Vec<Answer>
     Ok(looks)
 }
 
+/// The first changes, so many, of what was left before; none, where nothing was.
+fn front_of(alloc: Global, before: Option<Tail>, count: usize) -> Vec<Left>
+    ensures some { IfSome before (λ before. result.items ≡ take count before.changes.items) }
+    ensures none { before ≡ None → result.items ≡ [] }
+{
+    match before {
+        Some(tail) => {
+            let mut changes = tail.changes;
+            changes.truncate(count);
+            changes
+        }
+        None => Vec::new(alloc),
+    }
+}
+
+/// What this is the front of. Allocates memory for the rest.
+fn with_rest(front: Vec<Left>, all: &[Left]) -> Result<Vec<Left>, Memory>
+    requires { length front.items ≤ length all.now }
+    ensures { IfOk result
+        (λ rows. rows.items ≡ front.items ++ drop (length front.items) all.now) }
+{
+    let mut rows = front;
+    let start = rows.len();
+    rows.extend_from_slice(&all[start..])?;
+    Ok(rows)
+}
+
 impl Tail {
-    /// The same once more, but without the columns and the indexes of the pages: no segment goes on behind the copy. Allocates memory for
-    /// the changes.
+    /// The same once more, but without the columns and the indexes of the pages: no segment goes on behind the copy. It is made of a copy
+    /// of what was left before the last segment, if there is one. Allocates memory for the changes that it doesn't have.
     ///
     /// # Errors
     ///
     /// `Memory` where a growth of memory was refused.
-    pub fn copy(&self, alloc: Global) -> Result<Tail, Memory>
+    pub fn copy(&self, alloc: Global, before: Option<Tail>) -> Result<Tail, Memory>
+        requires { IfSome before (λ before. KeepsChanges before self.now) }
         ensures changes { IfOk result
             (λ copy. copy.changes.items ≡ self.now.changes.items) }
         ensures tail { (before : Option Run) → IsTailOf before self.now
@@ -113,11 +141,14 @@ impl Tail {
         ensures back { (run : Run) → HasIndexes self.now (end_of run)
             → IfOk result (λ copy. IsTailOfRun run copy → IsTailOfRun run self.now) }
     {
-        let changes = Vec::from_slice(alloc, &self.changes)?;
+        let kept = self.kept;
+        let front = front_of(alloc, before, kept);
+        let changes = with_rest(front, &self.changes)?;
         Ok(Tail {
             changes,
             levels: Vec::new(alloc),
             index: None,
+            kept,
         })
     }
 

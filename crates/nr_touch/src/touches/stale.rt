@@ -11,7 +11,7 @@ ghost use Rattle.nr_touch.specs.Beside.{beside};
 ghost use Rattle.nr_touch.specs.Excuses.{AreExcusedBy};
 ghost use Rattle.nr_touch.specs.Releases.{AreMemory, FindsReachable};
 ghost use Rattle.nr_touch.specs.Stale.{FindsStale};
-ghost use Rattle.nr_touch.specs.Tails.{GoesOn, IsSoundTail, IsTailOf};
+ghost use Rattle.nr_touch.specs.Tails.{GoesOn, IsSoundTail, IsTailOf, KeepsChanges};
 ghost use Rattle.nr_touch.specs.inside.Columns.{AreColumns, Covers, IsNumbered};
 ghost use Rattle.nr_touch.specs.inside.Earlier.{IsAnsweredSo};
 ghost use Rattle.nr_touch.specs.inside.Walk.{shown, IsAnsweredWithin};
@@ -272,6 +272,7 @@ pub fn follow(
     ensures released { IfOk result
         (λ found. IfSome found.reachable (λ index. index < length releases.now)) }
     ensures sound { IfOk result (λ found. IsSoundTail found.tail) }
+    ensures changes { IfOk result (λ found. KeepsChanges tail found.tail) }
     ensures start { IfOk result (λ found. found.start ≡ start) }
 {
     let places = segment.log().len() as u32;
@@ -279,6 +280,7 @@ pub fn follow(
         changes,
         levels,
         index,
+        ..
     } = tail;
     let (own, space) = replay(alloc, segment, start)?;
     let done = changes_of(alloc, &own)?;
@@ -299,7 +301,7 @@ pub fn follow(
         space,
         ..
     } = joined;
-    let (changes, levels) = left_after(alloc, changes, levels, &lefts)?;
+    let (changes, levels, kept) = left_after(alloc, changes, levels, &lefts)?;
     let index = indexes_after(alloc, index, &changes, &lefts)?;
     let start = undo_all(space, &done)?;
     Ok(Followed {
@@ -311,6 +313,7 @@ pub fn follow(
             changes,
             levels,
             index,
+            kept,
         },
         start,
     })

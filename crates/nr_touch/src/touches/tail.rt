@@ -1,9 +1,10 @@
 //! What the segments so far leave for the touches of later ones: how addresses may still be found to look.
 
 ghost use Rattle.std.specs.Prelude.{◌≡◌, ◌↔◌, ◌+◌, ◌<◌, ◌≤◌, ◌^◌, ◌++◌, ◌∷◌, ◌⊎◌, ◌||◌, if◌then◌else◌, map, drop, length, take, true, false, [], List, None, Contains};
-ghost use Rattle.std.specs.Prelude.{IfOk, IsTrue, OnOk};
+ghost use Rattle.std.specs.Prelude.{IfOk, IsTrue, OnOk, Option};
 ghost use Rattle.std.specs.List.Sorted.{IsNonDecreasingBy};
-ghost use Rattle.nr_touch.specs.Tails.{ends_look, AreSound, IsSoundLeft, IsSoundTail, IsTailOf};
+ghost use Rattle.nr_joined.specs.Run.{Run};
+ghost use Rattle.nr_touch.specs.Tails.{ends_look, AreSound, IsSoundLeft, IsSoundTail, IsTailOf, KeepsChanges};
 ghost use Rattle.nr_touch.specs.declared.changes.change.PlacedChange.{PlacedChange};
 ghost use Rattle.nr_touch.specs.inside.Changes.{number_of, page_before};
 ghost use Rattle.nr_touch.specs.inside.Columns.{AreColumns, IsNumbered};
@@ -37,6 +38,8 @@ pub struct Tail {
     pub(crate) levels: Vec<History>,
     /// The pages that a release is compared with, by the memory that they lead into: from the first segment with releases on.
     pub(crate) index: Option<Indexes>,
+    /// How many of the first changes were left before the last segment too.
+    pub(crate) kept: usize,
 }
 
 impl Tail {
@@ -49,6 +52,28 @@ impl Tail {
             changes: Vec::new(alloc),
             levels: Vec::new(alloc),
             index: None,
+            kept: 0,
+        }
+    }
+
+    /// What is left behind a segment that changes nothing of it. It allocates no memory.
+    pub fn unchanged(self) -> Tail
+        ensures tail { (before : Option Run) → IsTailOf before self → IsTailOf before result }
+        ensures sound { IsSoundTail self → IsSoundTail result }
+        ensures changes { KeepsChanges self result }
+    {
+        let Tail {
+            changes,
+            levels,
+            index,
+            ..
+        } = self;
+        let kept = changes.len();
+        Tail {
+            changes,
+            levels,
+            index,
+            kept,
         }
     }
 
@@ -307,25 +332,28 @@ fn rows_behind(
     Ok(rows)
 }
 
-/// The changes that are left behind the segments so far and one more, which made these, and their columns. It goes through a level that is
-/// left only if it has no more rows than what comes behind it.
+/// The changes that are left behind the segments so far and one more, which made these, their columns, and how many of the first ones
+/// were left before. It goes through a level that is left only if it has no more rows than what comes behind it.
 pub(crate) fn left_after(
     alloc: Global,
     changes: Vec<Left>,
     levels: Vec<History>,
     own: &[Left],
-) -> Result<(Vec<Left>, Vec<History>), Memory>
+) -> Result<(Vec<Left>, Vec<History>, usize), Memory>
     requires changes { AreSound changes.items }
     requires levels { AreLevels changes.items levels.items }
     requires own { (left : LeftRow) → Contains own.now left → IsSoundLeft left }
     ensures looks { IfOk result (λ found. KeepLooks (changes.items ++ own.now) found.0.items) }
     ensures sound { IfOk result (λ found. AreSound found.0.items) }
     ensures levels { IfOk result (λ found. AreLevels found.0.items found.1.items) }
+    ensures kept { IfOk result
+        (λ found. take found.2 found.0.items ≡ take found.2 changes.items) }
 {
     let mut changes = changes;
     let mut levels = levels;
     if own.is_empty() {
-        return Ok((changes, levels));
+        let all = changes.len();
+        return Ok((changes, levels, all));
     }
     let (keep, start) = merged(&changes, &levels, own.len());
     let rows = rows_behind(alloc, &changes, start, own)?;
@@ -337,5 +365,5 @@ pub(crate) fn left_after(
     levels.push(History::of(alloc, placed(alloc, &kept, start as u32)?)?)?;
     changes.truncate(start);
     changes.extend_from_slice(&kept)?;
-    Ok((changes, levels))
+    Ok((changes, levels, start))
 }

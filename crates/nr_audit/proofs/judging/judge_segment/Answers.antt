@@ -1,17 +1,19 @@
-use Rattle.std.proofs.Common.{◌≡◌, IfOk, IfSome, Option, Some, ap, sym, ◌∙◌, subst}
+use Rattle.std.proofs.Common.{◌≡◌, IfOk, IfSome, Option, None, Some, Result, ap, sym, ◌∙◌, subst}
 use Rattle.std.proofs.lemmas.Result.{err_from_is_err_and}
 use Rattle.vs_types.specs.Refusal.{IfRefused}
 use Rattle.vs_types.specs.Space.{Space}
 use Rattle.vs_plain.specs.Plain.{BoundedSpace}
 use Rattle.nr_trace.specs.Orders.{recorded_order, space_from}
 use Rattle.nr_joined.specs.Run.{Run, run_with}
-use Rattle.nr_touch.specs.Tails.{IsSoundTail, IsTailOf}
+use Rattle.nr_touch.specs.Tails.{IsSoundTail, IsTailOf, KeepsChanges}
+use Rattle.nr_touch.specs.declared.touches.tail.Tail.{Tail}
 use Rattle.nr_audit.specs.Faults.{IsFirstAfter, IsSoundAfter}
 use Rattle.nr_audit.specs.Met.{HasMet}
 use Rattle.nr_audit.specs.Segments.{pages_before, run_after, FitsPast, IsKept, IsRightAfter}
 use Rattle.nr_audit.specs.Start.{space_before, BeginsWrong}
 use Rattle.nr_audit.specs.Touches.{HasRightTouches}
 use Rattle.nr_audit.specs.Verdict.{space_of}
+use Rattle.nr_audit.specs.declared.past.Past.{Past}
 use Rattle.nr_audit.specs.inside.Search.{HasNoFaultBehind, IsFirstBehind}
 use Rattle.nr_audit.proofs.Judgements.{first_after, refused_begin, sound_after, start_first}
 use Rattle.nr_audit.proofs.Pasts.{begun, fits_after, kept_after, space_fits, spaces_behind, tail_sound}
@@ -66,6 +68,16 @@ returns-clause-fits c =
     let space = space_from c.in_ok-start.start.space segment segment.log in
     ok_both (λ right. right.1.space ≡ space_of segment.layout space) (λ right. IsSoundTail right.1.tail) (λ right. FitsPast segment.layout right.1)
     c.search.result (λ right. fits_after segment.layout space right.1) c.search.ensures.space c.search.ensures.left
+
+-- what is kept of the tail that the search begins with is kept of that of what came before
+keeps : {X E : Type 0} (tail_of : X → Tail) (before : Option Past) (tail : Tail) (result : Result X E) → IfSome before (λ past. tail ≡ past.tail)
+    → IfOk result (λ right. KeepsChanges tail (tail_of right)) → IfSome before (λ past. IfOk result (λ right. KeepsChanges past.tail (tail_of right)))
+keeps tail_of None tail result is kept = tt
+keeps tail_of (Some past) tail result is kept = subst (λ (t : Tail). IfOk result (λ right. KeepsChanges t (tail_of right))) is kept
+
+pub returns-clause-changes : goal.returns-clause-changes
+returns-clause-changes c =
+    keeps (λ right. right.1.tail) c.args.before c.parts_of-parts.result.1 c.search.result c.parts_of-parts.ensures.tail c.search.ensures.changes
 
 pub returns-clause-right : goal.returns-clause-right
 returns-clause-right c = λ run behind.

@@ -1,7 +1,8 @@
-use Rattle.std.proofs.Common.{IfSome, List, length, slice_get, option_map, option_and_then, ap, sym, ◌∙◌, subst}
+use Rattle.std.proofs.Common.{IfSome, Some, List, length, slice_get, option_map, option_and_then, ap, sym, ◌∙◌, subst}
 use Rattle.vs_types.specs.Space.{IsSpace}
 use Rattle.vs_types.specs.declared.depth.Depth.{Depth}
 use Rattle.vs_plain.specs.Plain.{BoundedSpace}
+use Rattle.nr_joined.specs.Run.{run_with}
 use Rattle.nr_touch.specs.Releases.{AreMemory}
 use Rattle.nr_touch.specs.declared.releases.release.Release.{Release}
 use Rattle.nr_touch.specs.declared.touches.touch.Touch.{Touch}
@@ -102,5 +103,9 @@ returns-then-is_quiet-clause-reaches c = λ run of_tail goes_on clean. tt
 pub returns-then-is_quiet-clause-tail : goal.returns-then-is_quiet-clause-tail
 returns-then-is_quiet-clause-tail c = λ run of_tail goes_on clean.
     let quiet = c.is_quiet.ensures c.if-is_quiet.true in
-    left_quiet run c.args.start.space c.args.segment.now c.args.tail of_tail goes_on clean quiet
-    (subst (λ (depth : Depth). IsSpace depth c.args.start.space) (ap (λ (s : BoundedSpace). s.depth) c.requires.start) c.pages_are_a_space.ensures)
+    c.unchanged.ensures.tail (Some (run_with run c.args.start.space c.args.segment.now))
+    (left_quiet run c.args.start.space c.args.segment.now c.args.tail of_tail goes_on clean quiet
+    (subst (λ (depth : Depth). IsSpace depth c.args.start.space) (ap (λ (s : BoundedSpace). s.depth) c.requires.start) c.pages_are_a_space.ensures))
+
+pub returns-then-is_quiet-clause-sound : goal.returns-then-is_quiet-clause-sound
+returns-then-is_quiet-clause-sound c = c.unchanged.ensures.sound c.requires.sound

@@ -1,11 +1,16 @@
-use Rattle.std.proofs.Common.{IfSome, Option, Some, refl, ap, sym, ◌∙◌, subst}
+use Rattle.std.proofs.Common.{IfSome, List, Option, None, Some, take, refl, ap, sym, ◌∙◌, subst}
 use Rattle.nr_trace.specs.declared.fault.Fault.{Fault}
+use Rattle.nr_touch.specs.Tails.{KeepsChanges}
+use Rattle.nr_touch.specs.declared.touches.tail.Left.{Left}
+use Rattle.nr_touch.specs.declared.touches.tail.Tail.{Tail}
 use Rattle.nr_audit.specs.Faults.{IsFirstAfter}
 use Rattle.nr_audit.specs.Met.{HasMet}
 use Rattle.nr_audit.specs.Start.{begins_in}
 use Rattle.nr_audit.specs.declared.met.Met.{Met}
+use Rattle.nr_audit.specs.declared.past.Past.{Past}
 use Rattle.nr_explain.specs.Progress.{run_in}
-use Rattle.nr_explain.specs.inside.Reading.{all_states}
+use Rattle.nr_explain.specs.inside.Reading.{all_states, AreTwice}
+use Rattle.nr_explain.specs.declared.chain.progress.Progress.{Progress}
 use Rattle.nr_explain.proofs.Feeding.{fresh_reading}
 use Rattle.nr_explain.proofs.Known.{shown_alike, sums_alike}
 use Rattle.nr_explain.proofs.Wholes.{behind, clean_behind, fits_after, fits_before, goes_behind, known_next, seen_next, show_behind}
@@ -40,6 +45,16 @@ go_on-requires-clause-index c =
 
 pub go_on-requires-clause-sound : goal.go_on-requires-clause-sound
 go_on-requires-clause-sound c = c.in-Ok.ensures.fits.tail
+
+-- what is kept of what the judge had is kept of its copy
+keeps : (last : Option Progress) (before : Option Past) (after : Tail) → AreTwice last before
+    → IfSome before (λ past. KeepsChanges past.tail after) → IfSome last (λ came. KeepsChanges came.tail after)
+keeps None before after twice kept = tt
+keeps (Some came) None after twice kept = absurd twice
+keeps (Some came) (Some past) after twice kept = kept ∙ ap (λ (cs : List Left). take after.kept cs) twice.left
+
+pub go_on-requires-clause-kept : goal.go_on-requires-clause-kept
+go_on-requires-clause-kept c = keeps c.args.last c.args.before c.in-Ok.past.tail c.requires.twice c.in-Ok.ensures.changes
 
 pub counted-met-requires : goal.counted-met-requires
 counted-met-requires c = c.in-Ok.ensures.counted

@@ -22,8 +22,8 @@ returns-in-Some c =
     (subst (λ (o : Option Reach). FindsWithin c.args.first.now.space segment c.args.address c.in_ok-window.window c.args.given o)
     c.in-Some.is c.in_ok-own.ensures)
 
-pub returns : goal.returns
-returns c =
+pub returns-in-None : goal.returns-in-None
+returns-in-None c =
     let segment = c.args.segment.now in
     let start = c.args.first.now.space in
     let changes = left_seen (all_states c.args.last.now) in

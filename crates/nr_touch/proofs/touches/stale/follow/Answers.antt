@@ -139,7 +139,8 @@ returns-clause-tail c = λ run of_tail goes_on clean.
     let segment = c.args.segment.now in
     let tail = c.args.tail in
     let own = c.in_ok-own.own.items in
-    let found : Tail = record { changes = c.in_ok-changes.changes; levels = c.in_ok-changes.levels; index = c.in_ok-index.index } in
+    let found : Tail =
+    record { changes = c.in_ok-changes.changes; levels = c.in_ok-changes.levels; index = c.in_ok-index.index; kept = c.in_ok-changes.kept } in
     let few : length segment.events < 4294967295 = let most = c.log.ensures.in_range.few_events in omega (arith, most) in
     let rises = c.in_ok-own.ensures.by_place in
     let are = c.in_ok-own.ensures.changes clean in
@@ -175,3 +176,6 @@ returns-clause-start c =
 pub returns-clause-sound : goal.returns-clause-sound
 returns-clause-sound c =
     (c.in_ok-changes.ensures.sound, c.in_ok-changes.ensures.levels, c.in_ok-index.ensures.room c.in_ok-reachable.ensures.room)
+
+pub returns-clause-changes : goal.returns-clause-changes
+returns-clause-changes c = c.in_ok-changes.ensures.kept

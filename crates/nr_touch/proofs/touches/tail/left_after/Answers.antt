@@ -1,6 +1,6 @@
 use Rattle.std.proofs.Common.{◌≡◌, ◌++◌, ◌≤◌, List, drop, length, take, ap, sym, ◌∙◌, arith}
 use Rattle.std.proofs.lemmas.Bool.{ne_eqb}
-use Rattle.std.proofs.lemmas.List.{length-take-le}
+use Rattle.std.proofs.lemmas.List.{length-take-le, take-append-le, take_all}
 use Rattle.nr_touch.specs.declared.touches.tail.Left.{Left}
 use Rattle.nr_touch.proofs.cuts.Levels.{levels_more}
 use Rattle.nr_touch.proofs.cuts.Thinned.{merged_looks, merged_sound, sound_rows}
@@ -48,3 +48,12 @@ returns-clause-levels c =
     (levels_more (take start c.args.changes.items) c.in_ok-kept.kept.items (take c.merged-keep.result.0 c.args.levels.items) c.in_ok-placed.field-0.items
     c.in_ok-of.field-0 (rw (c.deref.ensures.value, c.deref-2.ensures.value) at c.merged-keep.ensures.levels) placed c.in_ok-of.ensures.same
     c.in_ok-of.ensures.columns)
+
+pub returns-clause-kept : goal.returns-clause-kept
+returns-clause-kept c =
+    let start = c.merged-keep.result.1 in
+    let front = take start c.args.changes.items in
+    let within : start ≤ length c.args.changes.items = rw c.deref.ensures.value at c.merged-keep.ensures.within in
+    let many : length front ≡ start = length-take-le start c.args.changes.items within in
+    rw (c.in_ok-extend_from_slice.ensures.items, c.truncate-2.ensures.items, c.deref-6.ensures.value)
+    (take-append-le start front c.in_ok-kept.kept.items (omega (arith, many)) ∙ take_all start front (omega (arith, many)))
