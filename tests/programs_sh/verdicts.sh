@@ -218,5 +218,6 @@ tests_of_files() {
     complains "tests with $other" "$program" audit --tap $other "$trace"
   done
   complains "a test with a name of two lines" "$program" audit --tap "$trace" "$broken"
+  complains "a test with a carriage return in its name" "$program" audit --tap "$trace" "$(printf 'a\rok 2')"
   complains "tests of no file" "$program" audit --tap
 }

@@ -1,5 +1,5 @@
 -- What a parse by clap says of the inspection that is asked for.
-use Rattle.std.proofs.Common.{◌≡◌, ◌∙◌, ◌≤◌, ◌<◌, ◌⊎◌, ◌||◌, map, ℕ, Bool, true, false, List, [], ◌∷◌, Option, Some, None, Result, Ok, Err, ap, ap₂, inl}
+use Rattle.std.proofs.Common.{◌≡◌, ◌∙◌, ◌≤◌, ◌<◌, ◌⊎◌, ◌||◌, map, ℕ, Bool, true, false, List, [], Option, Some, None, Result, Ok, Err, ap, ap₂, inl}
 use Rattle.std.proofs.Common.{arith, inr, sym, refl, subst, codes, option_map, unwrap_or}
 use Rattle.std.proofs.Common.{Bor, Box, IfErr, IfOk}
 use Rattle.std.specs.Prelude.{MatchBool}
@@ -40,17 +40,6 @@ with_option adds so rule_is own = record {
   local = adds.globals ∙ ap₂ (λ (a b : Bool). a || b) so.local own;
 }
 
--- one kind more may come
-pub one_more : (k : ErrorKind) (kinds : Kinds) (e : Error) → HasKind kinds e → HasKind (k ∷ kinds) e
-one_more k kinds e (inl h) = inl h
-one_more k kinds e (inr h) = inr (inr h)
-
--- where it is that one alone, others may be
-pub alone : (k : ErrorKind) (kinds : Kinds) (e : Error) → HasKind (k ∷ []) e → HasKind (k ∷ kinds) e
-alone k kinds e (inl h) = inl h
-alone k kinds e (inr (inl h)) = inr (inl h)
-alone k kinds e (inr (inr h)) = absurd h
-
 -- two facts of a command that there is
 pub both : {T E : Type 0} (P Q : T → Type 0) (r : Result T E) → IfOk r P → IfOk r Q → IfOk r (λ x. P x × Q x)
 both P Q (Ok x) p q = (p, q)
@@ -62,6 +51,11 @@ pub entered : {Z : Type 0} (o : Option (Box SubCommand Z)) (name : Text) (rows :
     → Some rows ≡ option_map (λ p. p.1) (subcommand_rows o) → subcommand_rows o ≡ Some (name, rows)
 entered None name rows n r = cc
 entered (Some b) name rows n r = cc
+
+-- there is none
+pub not_entered : {Z : Type 0} (o : Option (Box SubCommand Z)) → None ≡ option_map (λ p. p.1) (subcommand_rows o) → subcommand_rows o ≡ None
+not_entered None r = refl
+not_entered (Some b) r = cc
 
 -- an error that is passed on
 pub same_error : {T : Type 0} (r : Result T Error) (e : Error) (kinds : Kinds) → IsErrAnd r (λ x. x ≡ e) → HasKind kinds e → IfErr r (HasKind kinds)
@@ -78,22 +72,23 @@ of_clap (Ok x) kinds P h = tt
 of_clap (Err e) kinds P h = inl h
 
 -- one of `audit`
-pub of_audit : (e : Error) (kinds : Kinds) (sub : Option (Text × List Row)) (rows : List Row) → sub ≡ Some (codes "audit", rows)
-    → (kind_of e ≡ OutOfMemory) ⊎ IsAuditMisuse rows (kind_of e) → HasKind kinds e ⊎ IsMisused sub (kind_of e)
-of_audit e kinds sub rows is (inl memory) = inl (inl memory)
-of_audit e kinds sub rows is (inr misuse) = inr (subst (λ s. IsMisused s (kind_of e)) (sym is) (inl (refl, misuse)))
+pub of_audit : (e : Error) (name : Text) (rows : List Row) → name ≡ codes "audit" → (kind_of e ≡ OutOfMemory) ⊎ IsAuditMisuse rows (kind_of e)
+    → HasKind [] e ⊎ IsMisused (Some (name, rows)) (kind_of e)
+of_audit e name rows is (inl memory) = inl (inl memory)
+of_audit e name rows is (inr misuse) = inr (inl (is, misuse))
 
 -- and of `pages`
-pub of_pages : (e : Error) (kinds : Kinds) (sub : Option (Text × List Row)) (rows : List Row) → sub ≡ Some (codes "pages", rows)
-    → (kind_of e ≡ OutOfMemory) ⊎ IsPagesMisuse rows (kind_of e) → HasKind kinds e ⊎ IsMisused sub (kind_of e)
-of_pages e kinds sub rows is (inl memory) = inl (inl memory)
-of_pages e kinds sub rows is (inr misuse) = inr (subst (λ s. IsMisused s (kind_of e)) (sym is) (inr (refl, misuse)))
+pub of_pages : (e : Error) (name : Text) (rows : List Row) → name ≡ codes "pages" → (kind_of e ≡ OutOfMemory) ⊎ IsPagesMisuse rows (kind_of e)
+    → HasKind [] e ⊎ IsMisused (Some (name, rows)) (kind_of e)
+of_pages e name rows is (inl memory) = inl (inl memory)
+of_pages e name rows is (inr misuse) = inr (inr (inl (is, misuse)))
 
 -- an error of a subcommand, where a parse gave that
-pub told_of : (k : ErrorKind) (kinds : Kinds) (e : Error) (given sub : Option (Text × List Row)) → given ≡ sub
-    → HasKind (k ∷ []) e ⊎ IsMisused given (kind_of e) → HasKind (k ∷ kinds) e ⊎ IsMisused sub (kind_of e)
-told_of k kinds e given sub same (inl h) = inl (alone k kinds e h)
-told_of k kinds e given sub same (inr h) = inr (subst (λ s. IsMisused s (kind_of e)) same h)
+pub told_of : (kinds : Kinds) (e : Error) (given sub : Option (Text × List Row)) → given ≡ sub
+    → HasKind [] e ⊎ IsMisused given (kind_of e) → HasKind kinds e ⊎ IsMisused sub (kind_of e)
+told_of kinds e given sub same (inl (inl memory)) = inl (inl memory)
+told_of kinds e given sub same (inl (inr none)) = absurd none
+told_of kinds e given sub same (inr h) = inr (subst (λ s. IsMisused s (kind_of e)) same h)
 
 -- the text of a value, or none
 pub text_or_none : (o : Option (Bor (List ℕ))) (d : Bor (List ℕ)) (t : Option Text) → option_map (λ s. s.now) o ≡ t → d.now ≡ []

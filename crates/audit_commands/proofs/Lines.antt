@@ -1,5 +1,5 @@
 -- What is said of several files, one after another.
-use Rattle.std.proofs.Common.{◌≡◌, ◌∙◌, ◌++◌, ◌+◌, ◌<◌, ℕ, Bool, Bor, List, [], ◌∷◌, Option, ap, ap₂, append-nil, arith, get_or}
+use Rattle.std.proofs.Common.{◌≡◌, ◌≢◌, ◌∙◌, ◌++◌, ◌+◌, ◌<◌, ℕ, Bool, Bor, List, [], ◌∷◌, Option, ap, ap₂, append-nil, arith, get_or}
 use Rattle.std.proofs.Common.{length, map, max, refl, subst, sym, take, inl, inr}
 use Rattle.std.specs.List.{concat}
 use Rattle.std.specs.Io.KnownBytes.{Appends}
@@ -8,9 +8,11 @@ use Rattle.std.proofs.Math.Nat.{max-zero, zero-max}
 use Rattle.std.proofs.lemmas.List.{map-append, map_more}
 use Rattle.std.proofs.lemmas.List.Elements.{All-nil, All-push}
 use Rattle.std.proofs.lemmas.List.Folds.{concat-append}
-use Rattle.audit_readers.specs.Refusals.{refusal_status}
+use Rattle.audit_readers.specs.Refusals.{refusal_status, IsEndFault}
 use Rattle.audit_readers.specs.declared.fault.ProgFault.{ProgFault}
-use Rattle.audit_commands.specs.Tasks.{AuditsEach, AuditsOne, FileLine, IsFileLine, IsVerdictLine, worst}
+use Rattle.audit_readers.specs.declared.fault.ProgFault.TheVariants.{BadAddress, NotCanonical, NoSuchReplica, InputTooLong, BadLine, NoThread, CannotRead}
+use Rattle.audit_readers.specs.declared.fault.ProgFault.TheVariants.{CannotWrite, Memory}
+use Rattle.audit_commands.specs.Tasks.{AuditsEach, AuditsOne, FileLine, IsFileLine, IsUnjudged, IsVerdictLine, worst}
 
 max_in_turn : (a b c : ℕ) → max a (max b c) ≡ max (max a b) c
 max_in_turn a b c = omega arith
@@ -70,13 +72,25 @@ line_written as_json file_bytes name text old new status is written = record {
   status_is = refl;
 }
 
+-- an end gave an error, and it wasn't the output
+pub is_unjudged : (fault : ProgFault) → IsEndFault fault → fault ≢ CannotWrite → IsUnjudged fault
+is_unjudged BadAddress ends other = absurd ends
+is_unjudged NotCanonical ends other = absurd ends
+is_unjudged NoSuchReplica ends other = absurd ends
+is_unjudged InputTooLong ends other = absurd ends
+is_unjudged (BadLine number) ends other = absurd ends
+is_unjudged NoThread ends other = absurd ends
+is_unjudged CannotRead ends other = tt
+is_unjudged CannotWrite ends other = absurd (other refl)
+is_unjudged Memory ends other = tt
+
 -- and a file that has none
 pub no_line : (as_json : Bool) (file_bytes : List ℕ → Option (List ℕ)) (name : List ℕ) (fault : ProgFault) (old new : Option (List ℕ)) (status : ℕ)
-    → status ≡ refusal_status fault → new ≡ old → AuditsOne as_json file_bytes name old new status
-no_line as_json file_bytes name fault old new status is same = record {
+    → IsUnjudged fault → status ≡ refusal_status fault → new ≡ old → AuditsOne as_json file_bytes name old new status
+no_line as_json file_bytes name fault old new status unjudged is same = record {
   line = record { name = name; text = []; status = status };
   name_is = refl;
-  is_line = inr (fault, refl, is);
+  is_line = inr (fault, unjudged, refl, is);
   written = subst (λ (k : Option (List ℕ)). Appends old k []) (sym same) (Appends-nil old);
   status_is = refl;
 }

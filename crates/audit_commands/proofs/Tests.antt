@@ -1,18 +1,18 @@
 -- Files that are audited as tests, one after another.
-use Rattle.std.proofs.Common.{◌≡◌, ◌∙◌, ◌++◌, ◌+◌, ◌<◌, ℕ, Bool, Bor, List, [], ◌∷◌, None, Option, Some, ap, ap₂, append-nil, append_assoc, arith, codes}
+use Rattle.std.proofs.Common.{◌≡◌, ◌∙◌, ◌++◌, ◌+◌, ◌<◌, ◌≤◌, ℕ, Bool, Bor, List, [], ◌∷◌, None, Option, Some, ap, ap₂, append-nil, append_assoc, arith, codes}
 use Rattle.std.proofs.Common.{false, get_or, inl, inr, length, map, max, refl, suc, subst, sym, take, true}
 use Rattle.std.specs.Prelude.{if◌then◌else◌}
 use Rattle.std.specs.List.{enumerate_from, flat_map}
 use Rattle.std.specs.Io.KnownBytes.{Appends}
 use Rattle.std.specs.Str.{bytes_eq}
 use Rattle.std.proofs.KnownBytes.{Appends-nil, Appends-trans}
-use Rattle.std.proofs.lemmas.List.{length-map, length-take-le, map-append, map_more}
+use Rattle.std.proofs.lemmas.List.{length-map, length-take-le, map-append, map_more, take_all}
 use Rattle.std.proofs.lemmas.List.Elements.{All-nil, All-push}
 use Rattle.audit_commands.proofs.Lines.{worst-append}
 use Rattle.audit_readers.specs.Answers.{IsReadOf}
 use Rattle.audit_readers.specs.Refusals.{refusal_status}
 use Rattle.audit_readers.specs.declared.fault.ProgFault.{ProgFault}
-use Rattle.audit_commands.specs.Tasks.{AreTests, AuditsTests, FileLine, IsTest, IsVerdictLine, IsVerdictOn, WritesTest, WritesTests, bytes_of}
+use Rattle.audit_commands.specs.Tasks.{AuditsTests, FileLine, IsTest, IsUnjudged, IsVerdictLine, IsVerdictOn, WritesTest, WritesTests, bytes_of}
 use Rattle.audit_commands.specs.Tasks.{plan_lines, refused_words, test_head, test_line, worst}
 
 lines_from : ℕ → List FileLine → List ℕ
@@ -111,18 +111,18 @@ test_judged file_bytes number name text old now new status one same is head line
 
 -- and one without
 pub test_refused : (file_bytes : List ℕ → Option (List ℕ)) (number : ℕ) (name : List ℕ) (fault : ProgFault) (old new : Option (List ℕ)) (status : ℕ)
-    → status ≡ refusal_status fault → Appends old new (test_head number status ++ refused_words name fault)
+    → IsUnjudged fault → status ≡ refusal_status fault → Appends old new (test_head number status ++ refused_words name fault)
     → WritesTest file_bytes number name old new status
-test_refused file_bytes number name fault old new status is written = record {
+test_refused file_bytes number name fault old new status unjudged is written = record {
   line = record { name = name; text = refused_words name fault; status = status };
   name_is = refl;
-  is_test = inr (fault, refl, is);
+  is_test = inr (fault, unjudged, refl, is);
   written = written;
   status_is = refl;
 }
 
 -- the tests behind the lines that say how many there are
-pub planned_tests : (file_bytes : List ℕ → Option (List ℕ)) (names : List (List ℕ)) (count : ℕ) (old now new : Option (List ℕ)) (status : ℕ)
+planned_tests : (file_bytes : List ℕ → Option (List ℕ)) (names : List (List ℕ)) (count : ℕ) (old now new : Option (List ℕ)) (status : ℕ)
     → count ≡ length names → Appends old now (plan_lines count) → WritesTests file_bytes names now new status
     → AuditsTests file_bytes names old new status
 planned_tests file_bytes names count old now new status counted plan tests = record {
@@ -130,3 +130,13 @@ planned_tests file_bytes names count old now new status counted plan tests = rec
   are_tests = tests.are_tests;
   written = Appends-trans old now new (plan_lines (length names)) tests.text (subst (λ (n : ℕ). Appends old now (plan_lines n)) counted plan) tests.written;
 }
+
+-- the same where the last of the names was tested
+pub all_tests : (file_bytes : List ℕ → Option (List ℕ)) (names : List (Bor (List ℕ))) (index count : ℕ) (old now new : Option (List ℕ)) (status : ℕ)
+    → count ≡ length names → length names ≤ index → Appends old now (plan_lines count)
+    → WritesTests file_bytes (map (λ (name : Bor (List ℕ)). name.now) (take index names)) now new status
+    → AuditsTests file_bytes (map (λ (name : Bor (List ℕ)). name.now) names) old new status
+all_tests file_bytes names index count old now new status counted over plan tests =
+    let name_of : Bor (List ℕ) → List ℕ = λ name. name.now in
+    planned_tests file_bytes (map name_of names) count old now new status (counted ∙ sym (length-map names name_of)) plan
+    (subst (λ (l : List (Bor (List ℕ))). WritesTests file_bytes (map name_of l) now new status) (take_all index names over) tests)

@@ -96,15 +96,22 @@ pub record IsVerdictLine (as_json : Bool) (file_bytes : List ℕ → Option (Lis
   pub is_read : IsReadOf (bytes_of file_bytes (named_file name)) input
   pub is_audit : IsNamedAudit as_json name input text status
 
+-- an input has no verdict: it couldn't be read, or memory ran out
+abbrev pub IsUnjudged : ProgFault → Type 0
+IsUnjudged CannotRead = ⊤
+IsUnjudged Memory = ⊤
+IsUnjudged _ = ⊥
+
 -- the line is that of the verdict; or there is none, for a reason that goes to standard error
 abbrev pub IsFileLine : Bool → (List ℕ → Option (List ℕ)) → FileLine → Type 0
 IsFileLine as_json file_bytes line = IsVerdictLine as_json file_bytes line.name line.text line.status
-    ⊎ ((fault : ProgFault) × (line.text ≡ []) × (line.status ≡ refusal_status fault))
+    ⊎ ((fault : ProgFault) × IsUnjudged fault × (line.text ≡ []) × (line.status ≡ refusal_status fault))
 
 -- the line of a file was written; or there is none, and nothing was written but where that failed
 pub record WritesLine {W : Type 0} (as_json : Bool) (file_bytes : List ℕ → Option (List ℕ)) (name : List ℕ) (contents : W
     → Option (List ℕ)) (old new : W) (outcome : Result ℕ ProgFault) : Type 0 where
   pub ends : IfOk outcome (λ status. (text : List ℕ) × IsVerdictLine as_json file_bytes name text status × Appends (contents old) (contents new) text)
+  pub fault : IfErr outcome IsEndFault
   pub alone : WritesAnswersAlone old new outcome
 
 -- what is said of one of several files was written, and nothing else
@@ -155,7 +162,7 @@ refused_words name fault = name ++ (codes ": " ++ refusal_line fault)
 -- the words on a file are the line of its verdict, or say why there is none
 abbrev pub IsTest : (List ℕ → Option (List ℕ)) → FileLine → Type 0
 IsTest file_bytes line = IsVerdictLine false file_bytes line.name line.text line.status
-    ⊎ ((fault : ProgFault) × (line.text ≡ refused_words line.name fault) × (line.status ≡ refusal_status fault))
+    ⊎ ((fault : ProgFault) × IsUnjudged fault × (line.text ≡ refused_words line.name fault) × (line.status ≡ refusal_status fault))
 
 -- a text is the tests of these files, in their order; the status is the worst of theirs
 pub record AreTests (file_bytes : List ℕ → Option (List ℕ)) (names : List (List ℕ)) (text : List ℕ) (status : ℕ) : Type 0 where

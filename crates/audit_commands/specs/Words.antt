@@ -61,11 +61,10 @@ json_option = record (new_rule (codes "json")) { long = Some (codes "json"); act
 abbrev pub all_option : Rule
 all_option = record (new_rule (codes "all")) { long = Some (codes "all"); action = Some SetTrue }
 
--- --chain and --quiet, which have no value
+-- --chain, which has no value
 abbrev pub chain_option : Rule
 chain_option = record (new_rule (codes "chain")) { long = Some (codes "chain"); action = Some SetTrue }
 
--- --quiet, which has no value
 -- --quiet, which has no value
 abbrev pub quiet_option : Rule
 quiet_option = record (new_rule (codes "quiet")) { long = Some (codes "quiet"); action = Some SetTrue }
@@ -74,7 +73,6 @@ quiet_option = record (new_rule (codes "quiet")) { long = Some (codes "quiet"); 
 abbrev pub flag_option : Text → Rule
 flag_option id = record (new_rule id) { long = Some id; action = Some SetTrue }
 
--- --steps, which has no value
 -- --steps, which has no value
 abbrev pub steps_option : Rule
 steps_option = record (new_rule (codes "steps")) { long = Some (codes "steps"); action = Some SetTrue }
@@ -95,7 +93,6 @@ abbrev pub resolve_app : App
 resolve_app =
     with_rule (with_rule (with_rule (with_rule (new_app (codes "resolve")) address_option) replica_option) steps_option) file_argument
 
--- --ranges, --chain, --start and --end, which have no value
 -- the command `pages`, with its options and file
 abbrev pub pages_app : App
 pages_app =
@@ -140,9 +137,9 @@ IsLeast rows least = IsNumberOf 32 (one_of (codes "least-overlap") rows) least
 abbrev pub AsksOverlap : List Row → Type 0
 AsksOverlap rows = (least : ℕ) × IsLeast rows least × (0 < least)
 
--- a test may have this name: a line break would end its line, and a # could begin a directive
+-- a test may have this name: a control character could end its line, and a # could begin a directive
 abbrev pub IsPlain : Text → Type 0
-IsPlain name = All (λ byte. (byte ≢ 10) × (byte ≢ 35)) name
+IsPlain name = All (λ byte. (32 ≤ byte) × (byte ≢ 35) × (byte ≢ 127)) name
 
 -- no more than one file was named, and this is the input
 abbrev pub HasOneInput : List Row → Option (Bor Text) → Type 0
@@ -258,10 +255,15 @@ abbrev pub IsPagesMisuse : List Row → ErrorKind → Type 0
 IsPagesMisuse rows fault =
     (IsFlag (one_of (codes "chain") rows) true × IsPointMisuse rows fault) ⊎ (IsFlag (one_of (codes "chain") rows) false × IsEndOfNone rows fault)
 
--- so a subcommand is with what was given with it
+-- a subcommand of this name asks for no inspection
+abbrev pub IsOtherName : Text → Type 0
+IsOtherName name = (name ≢ codes "audit") × (name ≢ codes "explain") × (name ≢ codes "resolve") × (name ≢ codes "pages")
+
+-- so a subcommand is with what was given with it; or there is none, or one that asks for no inspection
 abbrev pub IsMisused : Option (Text × List Row) → ErrorKind → Type 0
-IsMisused None fault = ⊥
+IsMisused None fault = fault ≡ kind.MissingSubcommand
 IsMisused (Some given) fault = ((given.0 ≡ codes "audit") × IsAuditMisuse given.1 fault) ⊎ ((given.0 ≡ codes "pages") × IsPagesMisuse given.1 fault)
+    ⊎ (IsOtherName given.0 × (fault ≡ kind.MissingSubcommand))
 
 -- a subcommand and what was given with it ask for an inspection
 abbrev pub AsksInspection : Text × List Row → Inspection → Type 0

@@ -1,6 +1,6 @@
 //! What the words of `audit`, `explain`, `resolve` and `pages` ask for.
 
-ghost use Rattle.std.specs.Prelude.{◌≡◌, ◌⊎◌, ◌∷◌, ◌↔◌, [], IfErr, IfOk, IsSomeAnd, IsTrue, MatchBool, codes, false, map, option_map, true};
+ghost use Rattle.std.specs.Prelude.{◌≡◌, ◌⊎◌, ◌↔◌, [], IfErr, IfOk, IsSomeAnd, IsTrue, MatchBool, Some, codes, false, map, option_map, true};
 ghost use Rattle.std.specs.List.{All};
 ghost use Rattle.clap.specs.Walk.{one_of};
 ghost use Rattle.clap.specs.Words.{first_of, found_of, kind_of, rows_of, subcommand_rows_of, HasKind};
@@ -149,13 +149,13 @@ fn read_audit<'a>(
     Ok(asked)
 }
 
-/// Whether a test may have this name: it has no line break, and no `#`, which could begin a directive.
+/// Whether a test may have this name: it has no control character, which could end its line, and no `#`, which could begin a directive.
 fn is_plain(name: &str) -> bool
     ensures { IsTrue result ↔ IsPlain name.now }
 {
     name.as_bytes()
         .iter()
-        .all(|byte| *byte != b'\n' && *byte != b'#')
+        .all(|byte| *byte >= b' ' && *byte != b'#' && *byte != 127)
 }
 
 /// Whether tests may have these names.
@@ -210,7 +210,7 @@ fn read_tests<'a>(
             }
             let unfit = line.error(
                 ErrorKind::ValueValidation,
-                "--tap takes no name with # or a line break",
+                "--tap takes no name with # or a control character",
             )?;
             Err(unfit)
         }
@@ -345,6 +345,33 @@ fn read_pages<'a>(line: &mut Command<'a>, given: &ArgMatches<'a>) -> Result<Insp
     Ok(Inspection::One(Task::PagesOfChain(point, as_ranges), input_of(given)))
 }
 
+/// What the subcommand of this name and what was given with it ask for.
+///
+/// # Errors
+///
+/// Those of `read_inspection`.
+fn read_named<'a>(
+    alloc: Global,
+    line: &mut Command<'a>,
+    name: &str,
+    given: &ArgMatches<'a>,
+) -> Result<Inspection<'a>, Error>
+    ensures asks { IfOk result (AsksInspection (name.now, rows_of (found_of given.now))) }
+    ensures fault { IfErr result (λ error. HasKind [] error
+        ⊎ IsMisused (Some (name.now, rows_of (found_of given.now))) (kind_of error)) }
+{
+    match name {
+        "audit" => read_audits(alloc, line, given),
+        "explain" => Ok(read_explain(given)),
+        "resolve" => Ok(read_resolve(given)),
+        "pages" => read_pages(line, given),
+        _ => {
+            let other = line.error(ErrorKind::MissingSubcommand, "a subcommand is required")?;
+            Err(other)
+        }
+    }
+}
+
 /// What `audit`, `explain`, `resolve` or `pages` and what was given with it ask for. The line is that of the program, for what it says of
 /// its words.
 ///
@@ -361,14 +388,14 @@ pub fn read_inspection<'a>(
 ) -> Result<Inspection<'a>, Error>
     ensures asks { IfOk result (λ inspection. IsSomeAnd (subcommand_rows_of matches.now)
         (λ given. AsksInspection given inspection)) }
-    ensures fault { IfErr result (λ error. HasKind (ErrorKind.MissingSubcommand ∷ []) error
+    ensures fault { IfErr result (λ error. HasKind [] error
         ⊎ IsMisused (subcommand_rows_of matches.now) (kind_of error)) }
 {
     match matches.subcommand() {
-        Some(("audit", given)) => read_audits(alloc, line, given),
-        Some(("explain", given)) => Ok(read_explain(given)),
-        Some(("resolve", given)) => Ok(read_resolve(given)),
-        Some(("pages", given)) => read_pages(line, given),
-        _ => Err(line.error(ErrorKind::MissingSubcommand, "a subcommand is required")?),
+        Some((name, given)) => read_named(alloc, line, name, given),
+        None => {
+            let none = line.error(ErrorKind::MissingSubcommand, "a subcommand is required")?;
+            Err(none)
+        }
     }
 }

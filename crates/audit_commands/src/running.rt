@@ -2,7 +2,7 @@
 
 ghost use Rattle.std.specs.Prelude.{◌≡◌, IfErr, IfOk, map};
 ghost use Rattle.audit_readers.specs.Answers.{IsNamedAudit, WritesReport};
-ghost use Rattle.audit_readers.specs.Refusals.{WritesAnswersAlone};
+ghost use Rattle.audit_readers.specs.Refusals.{IsEndFault, WritesAnswersAlone};
 ghost use Rattle.audit_commands.specs.Tasks.{AuditsEach, AuditsOne, RunsInspection};
 ghost use Rattle.audit_commands.specs.Tasks.{RunsTask, RunsTaskOnFile, WritesLine};
 
@@ -110,6 +110,7 @@ fn write_own_line<R: Read, W: Sink, E: Diagnostics>(
 ) -> Result<u8, ProgFault>
     ensures ok { IfOk result (WritesReport (IsNamedAudit as_json name.now) (R.remaining input.old.reader)
         (W.contents output.old) (W.contents output.new)) }
+    ensures err { IfErr result IsEndFault }
     ensures alone { WritesAnswersAlone output.old output.new result }
 {
     let outcome = named_audit_io(alloc, input, output, name, as_json, errors);
@@ -201,7 +202,7 @@ fn audit_each<F: FilesByName, R: Read, W: Sink, E: Diagnostics>(
 
 /// Makes the inspection, of standard input or of the files that are named. If there is no answer, the reason is written to the errors, as
 /// `tell_outcome` says, and then what else helps a person, as `remark` says. How far the audit of a chain has come is shown there too, and
-/// how much the right traces have. The files are taken one after the other, each in the memory that its task needs.
+/// how many calls the right traces have. The files are taken one after the other, each in the memory that its task needs.
 ///
 /// # Errors
 ///

@@ -1,8 +1,8 @@
 //! Files that are audited as tests: lines of the Test Anything Protocol.
 
-ghost use Rattle.std.specs.Prelude.{◌≡◌, ◌++◌, IfErr, IfOk, OnOk, decimal, false, map, string_bytes};
+ghost use Rattle.std.specs.Prelude.{◌≡◌, ◌++◌, IfErr, IfOk, OnOk, codes, decimal, false, map, string_bytes};
 ghost use Rattle.std.specs.Io.KnownBytes.{Appends};
-ghost use Rattle.audit_commands.specs.Tasks.{AuditsTests, IsVerdictLine, IsVerdictOn, WritesTest, WritesTests};
+ghost use Rattle.audit_commands.specs.Tasks.{AuditsTests, IsUnjudged, IsVerdictLine, IsVerdictOn, WritesTest};
 ghost use Rattle.audit_commands.specs.Tasks.{passed_words, plan_lines, refused_words, test_head};
 ghost use Rattle.audit_readers.specs.Refusals.{refusal_status};
 
@@ -20,8 +20,9 @@ use std::io::{Read, Write};
 
 /// The verdict on an input.
 fn judge<R: Read>(alloc: Global, name: &str, input: &mut Input<R>) -> Result<Report, ProgFault>
-    ensures { IfOk result (λ report. IsVerdictOn (R.remaining input.old.reader) name.now
+    ensures ok { IfOk result (λ report. IsVerdictOn (R.remaining input.old.reader) name.now
         (string_bytes report.text) report.status) }
+    ensures err { IfErr result IsUnjudged }
 {
     let read = read_trace(alloc, input)?;
     let report = named_audit_read(alloc, name, read, false)?;
@@ -35,8 +36,9 @@ fn judge_input<R: Read, E: Diagnostics>(
     input: &mut Input<R>,
     errors: &mut E,
 ) -> Result<Report, ProgFault>
-    ensures { IfOk result (λ report. IsVerdictOn (R.remaining input.old.reader) name.now
+    ensures ok { IfOk result (λ report. IsVerdictOn (R.remaining input.old.reader) name.now
         (string_bytes report.text) report.status) }
+    ensures err { IfErr result IsUnjudged }
 {
     let outcome = judge(alloc, name, input);
     if let Err(fault) = &outcome {
@@ -56,8 +58,11 @@ fn judge_file<F: FilesByName, R: Read, E: Diagnostics>(
     input: &mut Input<R>,
     errors: &mut E,
 ) -> Result<Report, ProgFault>
-    ensures { IfOk result (λ report. IsVerdictLine false (F.file_bytes files.now) name.now
+    ensures ok { IfOk result (λ report. IsVerdictLine false (F.file_bytes files.now) name.now
         (string_bytes report.text) report.status) }
+    ensures own { name.now ≡ codes "-" → IfOk result (λ report. IsVerdictOn
+        (R.remaining input.old.reader) name.now (string_bytes report.text) report.status) }
+    ensures err { IfErr result IsUnjudged }
 {
     if name == "-" {
         return judge_input(alloc, name, input, errors);
@@ -148,28 +153,6 @@ fn write_test<F: FilesByName, R: Read, W: Write, E: Diagnostics>(
     }
 }
 
-/// Audits each file, and writes its test. The status is the worst of theirs.
-fn write_tests<F: FilesByName, R: Read, W: Write, E: Diagnostics>(
-    files: &F,
-    alloc: Global,
-    names: &[&str],
-    input: &mut Input<R>,
-    output: &mut W,
-    errors: &mut E,
-) -> Result<u8, ProgFault>
-    ensures ok { IfOk result
-        (WritesTests (F.file_bytes files.now) (map (λ name. name.now) names.now)
-        (W.contents output.old) (W.contents output.new)) }
-    ensures err { IfErr result (λ fault. fault ≡ ProgFault.CannotWrite) }
-{
-    let mut worst = 0u8;
-    for (index, name) in names.iter().enumerate() {
-        let status = write_test(files, alloc, index + 1, *name, input, output, errors)?;
-        worst = worst.max(status);
-    }
-    Ok(worst)
-}
-
 /// Writes how many tests come.
 fn write_plan<W: Write>(count: usize, output: &mut W) -> Result<(), ProgFault>
     ensures ok { OnOk result
@@ -196,5 +179,10 @@ pub(crate) fn audit_tests<F: FilesByName, R: Read, W: Write, E: Diagnostics>(
     ensures err { IfErr result (λ fault. fault ≡ ProgFault.CannotWrite) }
 {
     write_plan(names.len(), output)?;
-    write_tests(files, alloc, names, input, output, errors)
+    let mut worst = 0u8;
+    for (index, name) in names.iter().enumerate() {
+        let status = write_test(files, alloc, index + 1, *name, input, output, errors)?;
+        worst = worst.max(status);
+    }
+    Ok(worst)
 }

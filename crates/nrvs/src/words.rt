@@ -1,6 +1,6 @@
 //! What the program's words ask for.
 
-ghost use Rattle.std.specs.Prelude.{◌≡◌, ◌≤◌, ◌⊎◌, ◌∷◌, [], false, IfOk, IfErr, MatchResult, codes, map, string_bytes};
+ghost use Rattle.std.specs.Prelude.{◌≡◌, ◌≤◌, ◌⊎◌, [], false, IfOk, IfErr, MatchResult, codes, map, string_bytes};
 ghost use Rattle.vs_types.specs.declared.limits.TheConstants.{MOST_LEVELS};
 ghost use Rattle.vs_types.specs.Depth.{levels};
 ghost use Rattle.clap.specs.Words.{fault_of, found_of, kind_of, one_text, rows_of, subcommand_of, subcommand_rows_of, HasKind};
@@ -103,7 +103,7 @@ fn read_matches<'a>(
     matches: &ArgMatches<'a>,
 ) -> Result<Command<'a>, Error>
     ensures asks { IfOk result (Asks (subcommand_rows_of matches.now)) }
-    ensures fault { IfErr result (λ error. HasKind (ErrorKind.MissingSubcommand ∷ []) error
+    ensures fault { IfErr result (λ error. HasKind [] error
         ⊎ IsMisused (subcommand_rows_of matches.now) (kind_of error)) }
 {
     match matches.subcommand() {
@@ -124,8 +124,7 @@ fn read_words<'a>(alloc: Global, words: &'a [String]) -> Result<Command<'a>, Err
     ensures faultless { IfOk result
         (λ _. fault_of command_line (map (λ word. string_bytes word) words.entry.now) ≡ []) }
     ensures fault { IfErr result (λ error. HasKind
-        (ErrorKind.MissingSubcommand
-        ∷ fault_of command_line (map (λ word. string_bytes word) words.entry.now)) error
+        (fault_of command_line (map (λ word. string_bytes word) words.entry.now)) error
         ⊎ IsMisused
         (subcommand_of command_line (map (λ word. string_bytes word) words.entry.now))
         (kind_of error)) }
@@ -154,8 +153,7 @@ pub fn read_program_words<'a>(
         (λ _. fault_of command_line (map (λ word. string_bytes word) given.items) ≡ [])) }
     ensures fault { IfOk words.entry.now
         (λ given. IfErr result (λ error. HasKind
-        (ErrorKind.MissingSubcommand
-        ∷ fault_of command_line (map (λ word. string_bytes word) given.items)) error
+        (fault_of command_line (map (λ word. string_bytes word) given.items)) error
         ⊎ IsMisused
         (subcommand_of command_line (map (λ word. string_bytes word) given.items))
         (kind_of error))) }

@@ -1,6 +1,6 @@
 //! What the program's words ask for.
 
-ghost use Rattle.std.specs.Prelude.{◌≡◌, ◌⊎◌, ◌∷◌, [], IfOk, IfErr, IsSomeAnd, MatchResult, map, string_bytes};
+ghost use Rattle.std.specs.Prelude.{◌≡◌, ◌⊎◌, [], IfOk, IfErr, IsSomeAnd, MatchResult, map, string_bytes};
 ghost use Rattle.clap.specs.Words.{fault_of, kind_of, subcommand_of, HasKind};
 ghost use Rattle.audit_commands.specs.Words.{kinds_of_no_words, AsksInspection, IsMisused};
 ghost use Rattle.nrvs_audit.specs.CommandLine.{nrvs_audit_line};
@@ -19,8 +19,7 @@ fn read_words<'a>(alloc: Global, words: &'a [String]) -> Result<Inspection<'a>, 
     ensures faultless { IfOk result
         (λ _. fault_of nrvs_audit_line (map (λ word. string_bytes word) words.entry.now) ≡ []) }
     ensures fault { IfErr result (λ error. HasKind
-        (ErrorKind.MissingSubcommand
-        ∷ fault_of nrvs_audit_line (map (λ word. string_bytes word) words.entry.now)) error
+        (fault_of nrvs_audit_line (map (λ word. string_bytes word) words.entry.now)) error
         ⊎ IsMisused
         (subcommand_of nrvs_audit_line (map (λ word. string_bytes word) words.entry.now))
         (kind_of error)) }
@@ -49,8 +48,7 @@ pub fn read_program_words<'a>(
         (λ _. fault_of nrvs_audit_line (map (λ word. string_bytes word) given.items) ≡ [])) }
     ensures fault { IfOk words.entry.now
         (λ given. IfErr result (λ error. HasKind
-        (ErrorKind.MissingSubcommand
-        ∷ fault_of nrvs_audit_line (map (λ word. string_bytes word) given.items)) error
+        (fault_of nrvs_audit_line (map (λ word. string_bytes word) given.items)) error
         ⊎ IsMisused
         (subcommand_of nrvs_audit_line (map (λ word. string_bytes word) given.items))
         (kind_of error))) }

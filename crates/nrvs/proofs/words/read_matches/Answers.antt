@@ -1,6 +1,5 @@
-use Rattle.std.proofs.Common.{◌∙◌, ◌⊎◌, [], ◌∷◌, ap, Some, codes, sym}
+use Rattle.std.proofs.Common.{◌∙◌, ◌⊎◌, [], ap, Some, codes, sym}
 use Rattle.clap.specs.Words.{rows_of, found_of, subcommand_rows_of, kind_of, HasKind}
-use Rattle.clap.specs.declared.error.kind.ErrorKind.TheVariants.{MissingSubcommand}
 use Rattle.clap.proofs.WalkLemmas.{one_text-rows}
 use Rattle.audit_commands.proofs.CommandLines.{entered, flag_of, passed_on}
 use Rattle.audit_commands.specs.Words.{IsMisused}
@@ -32,5 +31,5 @@ returns-in_ok-read_inspection-in_default-clause-asks c =
 pub returns-in_err-read_inspection-in_default-clause-fault : goal.returns-in_err-read_inspection-in_default-clause-fault
 returns-in_err-read_inspection-in_default-clause-fault c =
     passed_on c.from_residual.result c.in_err-read_inspection-in_default.field-0.0
-    (λ e. HasKind (MissingSubcommand ∷ []) e ⊎ IsMisused (subcommand_rows_of c.args.matches.now) (kind_of e))
+    (λ e. HasKind [] e ⊎ IsMisused (subcommand_rows_of c.args.matches.now) (kind_of e))
     c.from_residual.ensures.1 c.in_err-read_inspection-in_default.ensures.fault

@@ -1,6 +1,6 @@
 use Rattle.std.proofs.Common.{ℕ, List, Bor, map, take}
 use Rattle.audit_commands.specs.Tasks.{WritesTests}
-use Rattle.audit_commands.proofs.tap.write_tests.Given as goal
+use Rattle.audit_commands.proofs.tap.audit_tests.Given as goal
 
 -- the tests so far
 abbrev pub invariant-loop-index : goal.invariant-loop-index
