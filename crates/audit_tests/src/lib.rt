@@ -17,6 +17,8 @@ mod events;
 #[cfg(test)]
 mod explained;
 #[cfg(test)]
+mod found_orders;
+#[cfg(test)]
 mod large;
 #[cfg(test)]
 mod other_dumps;

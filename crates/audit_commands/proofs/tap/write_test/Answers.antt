@@ -10,4 +10,5 @@ returns-in_ok-write_head-in-Ok-clause-ok g c =
 
 pub returns-in-Err-clause-ok : goal.returns-in-Err-clause-ok
 returns-in-Err-clause-ok g c =
-    IfOk-weaker c.write_refused.result _ _ (λ status wrote. test_refused _ _ _ c.in-Err.fault _ _ status c.in-Err.ensures.err wrote.0 wrote.1) c.write_refused.ensures.ok
+    IfOk-weaker c.write_refused.result _ _
+    (λ status wrote. test_refused _ _ _ c.in-Err.fault _ _ status c.in-Err.ensures.err wrote.0 wrote.1) c.write_refused.ensures.ok

@@ -1,0 +1,3 @@
+-- Loop invariants, and what is looked for first: no public clause cites them.
+pub mod ByThemselves
+pub mod Counted
