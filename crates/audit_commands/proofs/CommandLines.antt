@@ -23,7 +23,7 @@ use Rattle.audit_commands.specs.Words.{IsLeast, IsLocal, IsMisuse, IsMisused, Is
 use Rattle.audit_commands.specs.declared.inspection.Inspection.{Inspection}
 use Rattle.audit_commands.specs.declared.inspection.Inspection.TheVariants.{One, Each, Tests}
 use Rattle.audit_commands.specs.declared.task.Task.{Task}
-use Rattle.audit_commands.specs.declared.task.Task.TheVariants.{Audit, Explain, Resolve, Pages, AuditChain, ExplainChain, PagesOfChain}
+use Rattle.audit_commands.specs.declared.task.Task.TheVariants.{Audit, Explain, Order, Resolve, Pages, AuditChain, ExplainChain, PagesOfChain}
 
 -- what the options of a command come to so far, none of them for its subcommands
 pub record IsSoFar (command : Command) (app : App) : Type 0 where
@@ -125,6 +125,7 @@ pub asks_traces : (rows : List Row) (asked : Inspection) → IsFlag (one_of (cod
     → IsFlag (one_of (codes "progress") rows) false → AsksTraces rows asked → AsksAudit rows asked
 asks_traces rows (One (Audit as_json least) input) chain quiet still asks = (chain, quiet, still, asks)
 asks_traces rows (One (Explain as_json with_dumps) input) chain quiet still asks = absurd asks
+asks_traces rows (One (Order as_trace steps) input) chain quiet still asks = absurd asks
 asks_traces rows (One (Resolve word replica with_steps) input) chain quiet still asks = absurd asks
 asks_traces rows (One (Pages replica as_ranges) input) chain quiet still asks = absurd asks
 asks_traces rows (One (AuditChain style watched least) input) chain quiet still asks = absurd asks
@@ -140,6 +141,7 @@ pub asks_chain : (rows : List Row) (task : Task) (input : Option (Bor (List ℕ)
     → AsksAudit rows (One (AuditChain style watched least) input)
 asks_chain rows (Audit own few) input style watched least chain still json shown asked asks = (chain, still, json, shown, asked, asks.2)
 asks_chain rows (Explain as_json with_dumps) input style watched least chain still json shown asked asks = absurd asks
+asks_chain rows (Order as_trace steps) input style watched least chain still json shown asked asks = absurd asks
 asks_chain rows (Resolve word replica with_steps) input style watched least chain still json shown asked asks = absurd asks
 asks_chain rows (Pages replica as_ranges) input style watched least chain still json shown asked asks = absurd asks
 asks_chain rows (AuditChain own seen few) input style watched least chain still json shown asked asks = absurd asks

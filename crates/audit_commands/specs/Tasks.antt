@@ -20,11 +20,12 @@ use Rattle.audit_texts.specs.ChainExplained.{IsChainExplained}
 use Rattle.audit_texts.specs.declared.chain.style.Style.{Style}
 use Rattle.audit_readers.specs.declared.fault.ProgFault.TheVariants.{CannotRead, CannotWrite, Memory}
 use Rattle.audit_readers.specs.PagesAnswers.{IsPages, IsPagesFault}
+use Rattle.audit_readers.specs.OrderAnswers.{IsOrderAnswer}
 use Rattle.audit_commands.specs.declared.inspection.Inspection.{Inspection}
 use Rattle.audit_commands.specs.declared.inspection.Inspection.TheVariants.{One, Each, Tests}
 use Rattle.audit_commands.specs.declared.task.ChainPoint.TheVariants.{Start, End}
 use Rattle.audit_commands.specs.declared.task.Task.{Task}
-use Rattle.audit_commands.specs.declared.task.Task.TheVariants.{Audit, Explain, Resolve, Pages, AuditChain, ExplainChain, PagesOfChain}
+use Rattle.audit_commands.specs.declared.task.Task.TheVariants.{Audit, Explain, Order, Resolve, Pages, AuditChain, ExplainChain, PagesOfChain}
 use Rattle.audit_commands.specs.Words.{named_file}
 
 -- such an answer to this input was written, where it is specified; or there is none, for such a reason
@@ -45,6 +46,7 @@ abbrev pub RunsTask : {W : Type 0} → Task → Option (List ℕ) → (W → Opt
 RunsTask (Audit as_json least) known contents old new outcome = Answers (IsAudit as_json least) IsEndFault known contents old new outcome
 RunsTask (Explain as_json false) known contents old new outcome = Answers (IsExplained as_json) IsEndFault known contents old new outcome
 RunsTask (Explain as_json true) known contents old new outcome = Answers (IsFullyExplained as_json) IsEndFault known contents old new outcome
+RunsTask (Order as_trace steps) known contents old new outcome = Answers (IsOrderAnswer as_trace) IsEndFault known contents old new outcome
 RunsTask (Resolve word replica with_steps) known contents old new outcome =
     Answers (IsResolve word.now replica with_steps) (IsResolveFault word.now replica with_steps known) known contents old new outcome
 RunsTask (Pages replica as_ranges) known contents old new outcome =

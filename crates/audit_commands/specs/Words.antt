@@ -1,4 +1,4 @@
--- The words of the commands `audit`, `explain`, `resolve` and `pages`, as clap's definitions read words, and what they ask for.
+-- The words of the commands `audit`, `explain`, `order`, `resolve` and `pages`, as clap's definitions read words, and what they ask for.
 use Rattle.std.specs.Prelude.{◌≡◌, ◌≢◌, ◌<◌, ◌≤◌, ◌⊎◌, ℕ, Bool, true, false, List, [], ◌∷◌, Option, Some, None, IfSome, Ok, Err, codes, length, map, pos}
 use Rattle.std.specs.Prelude.{unwrap_or, option_map, if◌then◌else◌}
 use Rattle.std.specs.List.{All}
@@ -17,7 +17,7 @@ use Rattle.audit_commands.specs.declared.inspection.Inspection.{Inspection}
 use Rattle.audit_commands.specs.declared.inspection.Inspection.TheVariants.{One, Each, Tests}
 use Rattle.audit_commands.specs.declared.task.ChainPoint.{ChainPoint}
 use Rattle.audit_commands.specs.declared.task.ChainPoint.TheVariants.{Start, End}
-use Rattle.audit_commands.specs.declared.task.Task.TheVariants.{Audit, Explain, Resolve, Pages, AuditChain, ExplainChain, PagesOfChain}
+use Rattle.audit_commands.specs.declared.task.Task.TheVariants.{Audit, Explain, Order, Resolve, Pages, AuditChain, ExplainChain, PagesOfChain}
 use Rattle.audit_commands.specs.declared.host_words.NoWords.{NoWords}
 use Rattle.audit_commands.specs.declared.host_words.NoWords.TheVariants.{Memory, NotText}
 
@@ -88,6 +88,18 @@ abbrev pub explain_app : App
 explain_app =
     with_rule (with_rule (with_rule (with_rule (new_app (codes "explain")) json_option) all_option) (flag_option (codes "chain"))) file_argument
 
+-- --steps NUMBER, from 1 to 2 ^ 32 - 1, and 1,000,000 where it is not given
+abbrev pub most_steps_option : Rule
+most_steps_option = record (new_rule (codes "steps")) {
+  long = Some (codes "steps");
+  parser = Some (parsers.Signed (pos 1) (pos 4294967295));
+  defaults = codes "1000000" ∷ [];
+}
+
+-- the command `order`, with its options and file
+abbrev pub order_app : App
+order_app = with_rule (with_rule (with_rule (new_app (codes "order")) (flag_option (codes "trace"))) most_steps_option) file_argument
+
 -- the command `resolve`, with its options and file
 abbrev pub resolve_app : App
 resolve_app =
@@ -102,7 +114,9 @@ pages_app =
 -- a program's words with those of these commands
 abbrev pub with_inspections : App → App
 with_inspections app =
-    with_subcommand (with_subcommand (with_subcommand (with_subcommand app audit_app.top) explain_app.top) resolve_app.top) pages_app.top
+    with_subcommand
+    (with_subcommand (with_subcommand (with_subcommand (with_subcommand app audit_app.top) explain_app.top) order_app.top) resolve_app.top)
+    pages_app.top
 
 -- the file of this name, but standard input where it is `-` or there is none
 abbrev pub named_file : Text → Option Text
@@ -216,6 +230,12 @@ AsksExplain rows (One (ExplainChain as_json) input) =
     × (option_map (λ name. name.now) input ≡ input_of (first_of (codes "file") rows))
 AsksExplain rows _ = ⊥
 
+-- with `order`: for an order of the calls of one trace
+abbrev pub AsksOrder : List Row → Inspection → Type 0
+AsksOrder rows (One (Order as_trace steps) input) = IsFlag (one_of (codes "trace") rows) as_trace × IsNumberOf 32 (one_of (codes "steps") rows) steps
+    × (option_map (λ name. name.now) input ≡ input_of (first_of (codes "file") rows))
+AsksOrder rows _ = ⊥
+
 -- with `resolve`: for where an address leads in a dump of one trace
 abbrev pub AsksResolve : List Row → Inspection → Type 0
 AsksResolve rows (One (Resolve address replica with_steps) input) = (unwrap_or (first_of (codes "address") rows) [] ≡ address.now)
@@ -257,7 +277,7 @@ IsPagesMisuse rows fault =
 
 -- a subcommand of this name asks for no inspection
 abbrev pub IsOtherName : Text → Type 0
-IsOtherName name = (name ≢ codes "audit") × (name ≢ codes "explain") × (name ≢ codes "resolve") × (name ≢ codes "pages")
+IsOtherName name = (name ≢ codes "audit") × (name ≢ codes "explain") × (name ≢ codes "order") × (name ≢ codes "resolve") × (name ≢ codes "pages")
 
 -- so a subcommand is with what was given with it; or there is none, or one that asks for no inspection
 abbrev pub IsMisused : Option (Text × List Row) → ErrorKind → Type 0
@@ -268,8 +288,8 @@ IsMisused (Some given) fault = ((given.0 ≡ codes "audit") × IsAuditMisuse giv
 -- a subcommand and what was given with it ask for an inspection
 abbrev pub AsksInspection : Text × List Row → Inspection → Type 0
 AsksInspection given inspection = ((given.0 ≡ codes "audit") × AsksAudits given.1 inspection)
-    ⊎ ((given.0 ≡ codes "explain") × AsksExplain given.1 inspection) ⊎ ((given.0 ≡ codes "resolve") × AsksResolve given.1 inspection)
-    ⊎ ((given.0 ≡ codes "pages") × AsksPages given.1 inspection)
+    ⊎ ((given.0 ≡ codes "explain") × AsksExplain given.1 inspection) ⊎ ((given.0 ≡ codes "order") × AsksOrder given.1 inspection)
+    ⊎ ((given.0 ≡ codes "resolve") × AsksResolve given.1 inspection) ⊎ ((given.0 ≡ codes "pages") × AsksPages given.1 inspection)
 
 -- where the words are not known: memory ran out, or one of them is no text, which is a fault of the command line
 abbrev pub kinds_of_no_words : NoWords → Kinds

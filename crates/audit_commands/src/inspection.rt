@@ -1,10 +1,11 @@
-//! What the words of `audit`, `explain`, `resolve` and `pages` ask for.
+//! What the words of `audit`, `explain`, `order`, `resolve` and `pages` ask for.
 
 ghost use Rattle.std.specs.Prelude.{◌≡◌, ◌⊎◌, ◌↔◌, [], IfErr, IfOk, IsSomeAnd, IsTrue, MatchBool, Some, codes, false, map, option_map, true};
 ghost use Rattle.std.specs.List.{All};
 ghost use Rattle.clap.specs.Walk.{one_of};
 ghost use Rattle.clap.specs.Words.{first_of, found_of, kind_of, rows_of, subcommand_rows_of, HasKind};
-ghost use Rattle.audit_commands.specs.Words.{AsksAudit, AsksAudits, AsksExplain, AsksInspection, AsksPages, AsksResolve, AsksTests, AsksTraces};
+ghost use Rattle.audit_commands.specs.Words.{AsksAudit, AsksAudits, AsksExplain, AsksInspection, AsksOrder, AsksPages, AsksResolve};
+ghost use Rattle.audit_commands.specs.Words.{AsksTests, AsksTraces};
 ghost use Rattle.audit_commands.specs.Words.{HasNoOtherOption, HasOtherOption, IsAuditMisuse, IsPlain, IsTestsMisuse};
 ghost use Rattle.audit_commands.specs.Words.{IsFlag, IsLeast, IsMisuse, IsMisused, IsPagesMisuse, IsPoint, IsPointMisuse};
 ghost use Rattle.audit_commands.specs.Words.{input_of, named_file};
@@ -15,7 +16,7 @@ use clap::error::ErrorKind;
 use clap::{ArgMatches, Command, Error};
 use std::alloc::Global;
 
-/// What the words of `audit`, `explain`, `resolve` or `pages` ask for.
+/// What the words of `audit`, `explain`, `order`, `resolve` or `pages` ask for.
 #[derive(Debug, Drop)]
 pub enum Inspection<'a> {
     /// A task on one input: the file of this name, or standard input.
@@ -257,6 +258,15 @@ fn read_explain<'a>(given: &ArgMatches<'a>) -> Inspection<'a>
     Inspection::One(Task::Explain(as_json, with_dumps), input_of(given))
 }
 
+/// What was given with `order` asks for.
+fn read_order<'a>(given: &ArgMatches<'a>) -> Inspection<'a>
+    ensures { AsksOrder (rows_of (found_of given.now)) result }
+{
+    let as_trace = is_given(given, "trace");
+    let steps = given.get_one::<u32>("steps").unwrap_or(0);
+    Inspection::One(Task::Order(as_trace, steps), input_of(given))
+}
+
 /// What was given with `resolve` asks for.
 fn read_resolve<'a>(given: &ArgMatches<'a>) -> Inspection<'a>
     ensures { AsksResolve (rows_of (found_of given.now)) result }
@@ -363,6 +373,7 @@ fn read_named<'a>(
     match name {
         "audit" => read_audits(alloc, line, given),
         "explain" => Ok(read_explain(given)),
+        "order" => Ok(read_order(given)),
         "resolve" => Ok(read_resolve(given)),
         "pages" => read_pages(line, given),
         _ => {
@@ -372,8 +383,8 @@ fn read_named<'a>(
     }
 }
 
-/// What `audit`, `explain`, `resolve` or `pages` and what was given with it ask for. The line is that of the program, for what it says of
-/// its words.
+/// What `audit`, `explain`, `order`, `resolve` or `pages` and what was given with it ask for. The line is that of the program, for what it
+/// says of its words.
 ///
 /// # Errors
 ///

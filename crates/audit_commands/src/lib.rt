@@ -1,5 +1,5 @@
-//! The commands `audit`, `explain`, `resolve` and `pages`: their words on the command line, and what they do with standard input or
-//! with the files that are named.
+//! The commands `audit`, `explain`, `order`, `resolve` and `pages`: their words on the command line, and what they do with standard input
+//! or with the files that are named.
 #![tactic(auto)]
 
 mod diagnostics;

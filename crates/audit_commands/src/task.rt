@@ -2,7 +2,7 @@
 
 use audit_readers::{
     Form, ProgFault, Progress, Source, audit_chain_io, audit_io, chain_end_io, chain_start_io,
-    explain_all_io, explain_chain_io, explain_io, pages_io, resolve_io,
+    explain_all_io, explain_chain_io, explain_io, order_io, pages_io, resolve_io,
 };
 use audit_texts::Style;
 use std::alloc::Global;
@@ -13,6 +13,8 @@ const IS_CHAIN: &str = "this is a chain: use --chain";
 const IS_TRACE: &str = "this is a trace: leave out --chain";
 
 const NO_TRACE: &str = "this is a chain, and resolve reads traces";
+
+const NO_ORDER: &str = "this is a chain, and order reads traces";
 
 /// The end of a chain whose pages are listed.
 #[derive(Clone, Copy, Debug)]
@@ -30,6 +32,8 @@ pub enum Task<'a> {
     Audit(bool, u32),
     /// Judge it, and show the evidence of its fault; as JSON; and what is wrong with the other dumps.
     Explain(bool, bool),
+    /// Look for an order of its calls; write the trace that has it as its log; and the most steps.
+    Order(bool, u32),
     /// Walk at this address, as the command line spells it, in the dump of this replica; and list the entries that are read.
     Resolve(&'a str, u8, bool),
     /// List the pages of the dump of this replica; and as ranges.
@@ -71,6 +75,7 @@ impl<'a> Task<'a> {
             Form::Text => Some("this is text, and no recording of a run"),
             Form::Trace if self.reads_chain() => Some(IS_TRACE),
             Form::Chain if matches!(self, Task::Resolve(_, _, _)) => Some(NO_TRACE),
+            Form::Chain if matches!(self, Task::Order(_, _)) => Some(NO_ORDER),
             Form::Chain if !self.reads_chain() => Some(IS_CHAIN),
             Form::Trace | Form::Chain | Form::Unknown => None,
         }
@@ -94,7 +99,7 @@ impl<'a> Task<'a> {
     ///
     /// # Errors
     ///
-    /// Those of `audit_io`, of `explain_io`, of `resolve_io`, of `pages_io`, or of those of chains.
+    /// Those of `audit_io`, of `explain_io`, of `order_io`, of `resolve_io`, of `pages_io`, or of those of chains.
     pub fn run<R: Source, W: Write, P: Progress>(
         self,
         alloc: Global,
@@ -114,6 +119,7 @@ impl<'a> Task<'a> {
             }
             Task::Explain(as_json, false) => explain_io(alloc, reader, writer, as_json),
             Task::Explain(as_json, true) => explain_all_io(alloc, reader, writer, as_json),
+            Task::Order(as_trace, steps) => order_io(alloc, reader, writer, as_trace, steps),
             Task::Resolve(address, replica, with_steps) => {
                 resolve_io(alloc, reader, writer, address, replica, with_steps)
             }

@@ -1,9 +1,11 @@
 //! The words of the commands.
 ghost use Rattle.std.specs.Prelude.{◌≡◌, false, IfOk};
 ghost use Rattle.clap.specs.Words.{App, app_of, rule_of, with_subcommand};
-ghost use Rattle.audit_commands.specs.Words.{address_option, audit_app, explain_app, file_argument, files_argument, flag_option, pages_app};
-ghost use Rattle.audit_commands.specs.Words.{least_option, replica_option, resolve_app, with_inspections, IsLocal};
+ghost use Rattle.audit_commands.specs.Words.{address_option, audit_app, explain_app, file_argument, files_argument, flag_option};
+ghost use Rattle.audit_commands.specs.Words.{order_app, pages_app};
+ghost use Rattle.audit_commands.specs.Words.{least_option, most_steps_option, replica_option, resolve_app, with_inspections, IsLocal};
 
+use clap::builder::ValueParser;
 use clap::{Arg, ArgAction, Command, value_parser};
 use std::alloc::{AllocError, Global};
 
@@ -117,6 +119,31 @@ fn explain<'a>(alloc: Global) -> Result<Command<'a>, AllocError>
         .arg(file(alloc))
 }
 
+/// The most steps of a search.
+fn most_steps<'a>(alloc: Global) -> Arg<'a>
+    ensures rule { rule_of result ≡ most_steps_option }
+    ensures local { result.global ≡ false }
+{
+    Arg::new(alloc, "steps")
+        .long("steps")
+        .value_parser(ValueParser::signed(1, 4_294_967_295))
+        .default_value("1000000")
+        .help("The most steps of the search: 1 to 4294967295")
+}
+
+/// The words of `order`.
+fn order<'a>(alloc: Global) -> Result<Command<'a>, AllocError>
+    ensures app { IfOk result (λ command. app_of command ≡ order_app) }
+    ensures local { IfOk result IsLocal }
+{
+    let trace = "Prints the trace that has the order as its log, if one is found";
+    Command::new(alloc, "order")
+        .about("Looks for an order of the calls with which a trace is right, whatever its log is")
+        .arg(flag(alloc, "trace", trace))?
+        .arg(most_steps(alloc))?
+        .arg(file(alloc))
+}
+
 /// The words of `resolve`.
 fn resolve<'a>(alloc: Global) -> Result<Command<'a>, AllocError>
     ensures app { IfOk result (λ command. app_of command ≡ resolve_app) }
@@ -169,7 +196,7 @@ pub fn with_command<'a>(
     line.subcommand(given)
 }
 
-/// A program's words with those of `audit`, `explain`, `resolve` and `pages`.
+/// A program's words with those of `audit`, `explain`, `order`, `resolve` and `pages`.
 ///
 /// # Errors
 ///
@@ -179,6 +206,7 @@ pub fn with_inspections<'a>(alloc: Global, line: Command<'a>) -> Result<Command<
 {
     let line = with_command(line, audit(alloc))?;
     let line = with_command(line, explain(alloc))?;
+    let line = with_command(line, order(alloc))?;
     let line = with_command(line, resolve(alloc))?;
     with_command(line, pages(alloc))
 }

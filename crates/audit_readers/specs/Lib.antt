@@ -2,6 +2,7 @@ pub mod Answers
 pub mod Ends
 pub mod Refusals
 pub mod PagesAnswers
+pub mod OrderAnswers
 pub mod ChainAudit
 pub mod ChainPages
 pub mod inside
@@ -18,6 +19,8 @@ pub use Rattle.nr_trace.specs.FirstFault
 pub use Rattle.nr_audit.specs.Verdict
 pub use Rattle.nr_audit.specs.Headline
 pub use Rattle.nr_explain.specs.Explanation
+pub use Rattle.nr_order.specs.WithOrder
+pub use Rattle.nr_order.specs.Finding
 pub use Rattle.audit_texts.specs.Text
 pub use Rattle.audit_texts.specs.AuditJson
 pub use Rattle.audit_texts.specs.Explained

@@ -1,6 +1,7 @@
 //! The audit's commands over a reader and a writer, of traces and of chains. `audit_io` writes the verdict, `explain_io` the verdict and
-//! what shows its fault, `resolve_io` where an address leads in a dump, and `pages_io` the pages of one. `audit_chain_io` writes the lines
-//! of each segment as soon as it is whole. What they write is a function of what they read.
+//! what shows its fault, `order_io` an order of the calls that is looked for, `resolve_io` where an address leads in a dump, and `pages_io`
+//! the pages of one. `audit_chain_io` writes the lines of each segment as soon as it is whole. What they write is a function of what they
+//! read.
 #![tactic(auto)]
 
 mod audit;
@@ -10,6 +11,7 @@ mod explain;
 mod fault;
 mod form;
 pub mod laws;
+mod order;
 mod pages;
 mod progress;
 mod report;
@@ -27,6 +29,7 @@ pub use explain::{explain_all_io, explain_io, explained_read, fully_explained_re
 pub use fault::ProgFault;
 pub use form::Form;
 pub use nr_audit::{Met, Totals};
+pub use order::order_io;
 pub use pages::{pages_io, pages_read};
 pub use progress::{Progress, Unwatched};
 pub use report::Report;

@@ -1,5 +1,6 @@
-//! The program: `nrvs audit` says whether a trace is right, `nrvs explain` what shows its fault, `nrvs resolve` where an
-//! address leads in one of its dumps, `nrvs simulate` takes the steps of a script, and `nrvs run` runs the threads of one.
+//! The program: `nrvs audit` says whether a trace is right, `nrvs explain` what shows its fault, and `nrvs order` looks for an order of its
+//! calls. `nrvs resolve` says where an address leads in one of its dumps. `nrvs simulate` takes the steps of a script, and `nrvs run` runs the
+//! threads of one.
 #![tactic(auto)]
 
 mod command;

@@ -16,12 +16,15 @@ returns-in-audit-clause-fault c =
 pub returns-in-explain-clause-asks : goal.returns-in-explain-clause-asks
 returns-in-explain-clause-asks c = inr (inl (c.in-explain.is, c.read_explain.ensures))
 
+pub returns-in-order-clause-asks : goal.returns-in-order-clause-asks
+returns-in-order-clause-asks c = inr (inr (inl (c.in-order.is, c.read_order.ensures)))
+
 pub returns-in-resolve-clause-asks : goal.returns-in-resolve-clause-asks
-returns-in-resolve-clause-asks c = inr (inr (inl (c.in-resolve.is, c.read_resolve.ensures)))
+returns-in-resolve-clause-asks c = inr (inr (inr (inl (c.in-resolve.is, c.read_resolve.ensures))))
 
 pub returns-in-pages-clause-asks : goal.returns-in-pages-clause-asks
 returns-in-pages-clause-asks c =
-    IfOk-weaker c.read_pages.result _ _ (λ inspection h. inr (inr (inr (c.in-pages.is, h)))) c.read_pages.ensures.asks
+    IfOk-weaker c.read_pages.result _ _ (λ inspection h. inr (inr (inr (inr (c.in-pages.is, h))))) c.read_pages.ensures.asks
 
 pub returns-in-pages-clause-fault : goal.returns-in-pages-clause-fault
 returns-in-pages-clause-fault c =
@@ -31,4 +34,4 @@ returns-in-pages-clause-fault c =
 pub returns-in_ok-other-in_default-clause-fault : goal.returns-in_ok-other-in_default-clause-fault
 returns-in_ok-other-in_default-clause-fault c =
     let arm = c.in_default in
-    inr (inr (inr ((arm.not-audit, arm.not-explain, arm.not-resolve, arm.not-pages), c.in_ok-other-in_default.ensures.kind)))
+    inr (inr (inr ((arm.not-audit, arm.not-explain, arm.not-order, arm.not-resolve, arm.not-pages), c.in_ok-other-in_default.ensures.kind)))
