@@ -1,5 +1,5 @@
 -- What the words of the command line ask for, as clap's definitions read words.
-use Rattle.std.specs.Prelude.{◌≡◌, ◌≤◌, ◌⊎◌, ℕ, List, [], ◌∷◌, Option, Some, None, Ok, codes, pos, true, false}
+use Rattle.std.specs.Prelude.{◌≡◌, ◌≢◌, ◌≤◌, ◌⊎◌, ℕ, List, [], ◌∷◌, Option, Some, None, IfSome, Ok, codes, pos, true, false}
 use Rattle.std.specs.Str.Parse.{ParsesUnsigned}
 use Rattle.vs_types.specs.Depth.{levels}
 use Rattle.clap.specs.Words.{App, Row, Rule, Text, new_app, new_rule, with_rule, with_subcommand}
@@ -7,7 +7,8 @@ use Rattle.clap.specs.Walk.{one_of}
 use Rattle.clap.specs.declared.builder.value_parser.ValueParser.{ValueParser}
 use Rattle.clap.specs.declared.builder.value_parser.ValueParser.TheVariants as parsers
 use Rattle.clap.specs.declared.builder.action.ArgAction.TheVariants.{SetTrue}
-use Rattle.audit_commands.specs.Words.{AsksInspection, IsFlag, with_inspections}
+use Rattle.clap.specs.declared.error.kind.ErrorKind.{ErrorKind}
+use Rattle.audit_commands.specs.Words.{AsksInspection, IsFlag, IsMisused, with_inspections}
 use Rattle.nrvs.specs.declared.runs.setup.Setup.{Setup}
 use Rattle.nrvs.specs.declared.command.Command.{Command}
 use Rattle.nrvs.specs.declared.command.Command.TheVariants.{Inspect, Simulate, Run, RunChain}
@@ -104,3 +105,7 @@ Asks (Some given) (Inspect inspection) = AsksInspection given inspection
 Asks (Some given) (Simulate setup as_trace) =
     (given.0 ≡ codes "simulate") × IsSetup given.1 setup × IsFlag (one_of (codes "trace") given.1) as_trace
 Asks (Some given) command = (given.0 ≡ codes "run") × AsksRun given.1 command
+
+-- so a subcommand is with what was given with it, or there is none; `simulate` and `run` take all that clap lets pass
+abbrev pub IsMisusedHere : Option (Text × List Row) → ErrorKind → Type 0
+IsMisusedHere given fault = IsMisused given fault × IfSome given (λ it. (it.0 ≢ codes "simulate") × (it.0 ≢ codes "run"))

@@ -1,11 +1,11 @@
 //! What the program's words ask for.
 
-ghost use Rattle.std.specs.Prelude.{◌≡◌, ◌≤◌, ◌⊎◌, [], false, IfOk, IfErr, MatchResult, codes, map, string_bytes};
+ghost use Rattle.std.specs.Prelude.{◌≡◌, ◌≤◌, ◌⊎◌, [], false, IfOk, IfErr, Some, MatchResult, codes, map, string_bytes};
 ghost use Rattle.vs_types.specs.declared.limits.TheConstants.{MOST_LEVELS};
 ghost use Rattle.vs_types.specs.Depth.{levels};
 ghost use Rattle.clap.specs.Words.{fault_of, found_of, kind_of, one_text, rows_of, subcommand_of, subcommand_rows_of, HasKind};
-ghost use Rattle.audit_commands.specs.Words.{kinds_of_no_words, IsMisused};
-ghost use Rattle.nrvs.specs.CommandLine.{command_line, Asks, AsksRun, IsNumber, IsSegmentSize, IsSetup, IsTurns};
+ghost use Rattle.audit_commands.specs.Words.{kinds_of_no_words};
+ghost use Rattle.nrvs.specs.CommandLine.{command_line, Asks, AsksRun, IsMisusedHere, IsNumber, IsSegmentSize, IsSetup, IsTurns};
 
 use crate::command::Command;
 use crate::command_line::command_line;
@@ -96,6 +96,30 @@ fn read_run<'a>(given: &ArgMatches<'_>) -> Command<'a>
     }
 }
 
+/// What the subcommand of this name and what was given with it ask for, or what is wrong with that.
+fn read_named<'a>(
+    alloc: Global,
+    line: &mut clap::Command<'a>,
+    matches: &ArgMatches<'a>,
+    name: &str,
+    given: &ArgMatches<'a>,
+) -> Result<Command<'a>, Error>
+    requires { subcommand_rows_of matches.now ≡ Some (name.now, rows_of (found_of given.now)) }
+    ensures asks { IfOk result (Asks (subcommand_rows_of matches.now)) }
+    ensures fault { IfErr result (λ error. HasKind [] error
+        ⊎ IsMisusedHere (subcommand_rows_of matches.now) (kind_of error)) }
+{
+    match name {
+        "simulate" => {
+            let setup = read_setup(given);
+            let as_trace = given.get_flag("trace");
+            Ok(Command::Simulate(setup, as_trace))
+        }
+        "run" => Ok(read_run(given)),
+        _ => Ok(Command::Inspect(read_inspection(alloc, line, matches)?)),
+    }
+}
+
 /// What a subcommand and what was given with it ask for, or what is wrong with that.
 fn read_matches<'a>(
     alloc: Global,
@@ -104,16 +128,11 @@ fn read_matches<'a>(
 ) -> Result<Command<'a>, Error>
     ensures asks { IfOk result (Asks (subcommand_rows_of matches.now)) }
     ensures fault { IfErr result (λ error. HasKind [] error
-        ⊎ IsMisused (subcommand_rows_of matches.now) (kind_of error)) }
+        ⊎ IsMisusedHere (subcommand_rows_of matches.now) (kind_of error)) }
 {
     match matches.subcommand() {
-        Some(("simulate", given)) => {
-            let setup = read_setup(given);
-            let as_trace = given.get_flag("trace");
-            Ok(Command::Simulate(setup, as_trace))
-        }
-        Some(("run", given)) => Ok(read_run(given)),
-        _ => Ok(Command::Inspect(read_inspection(alloc, line, matches)?)),
+        Some((name, given)) => read_named(alloc, line, matches, name, given),
+        None => Ok(Command::Inspect(read_inspection(alloc, line, matches)?)),
     }
 }
 
@@ -125,7 +144,7 @@ fn read_words<'a>(alloc: Global, words: &'a [String]) -> Result<Command<'a>, Err
         (λ _. fault_of command_line (map (λ word. string_bytes word) words.entry.now) ≡ []) }
     ensures fault { IfErr result (λ error. HasKind
         (fault_of command_line (map (λ word. string_bytes word) words.entry.now)) error
-        ⊎ IsMisused
+        ⊎ IsMisusedHere
         (subcommand_of command_line (map (λ word. string_bytes word) words.entry.now))
         (kind_of error)) }
 {
@@ -154,7 +173,7 @@ pub fn read_program_words<'a>(
     ensures fault { IfOk words.entry.now
         (λ given. IfErr result (λ error. HasKind
         (fault_of command_line (map (λ word. string_bytes word) given.items)) error
-        ⊎ IsMisused
+        ⊎ IsMisusedHere
         (subcommand_of command_line (map (λ word. string_bytes word) given.items))
         (kind_of error))) }
     ensures no_words { IfErr words.entry.now
