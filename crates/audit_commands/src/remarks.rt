@@ -14,8 +14,11 @@ pub(crate) fn try_text<E: Write>(text: &str, errors: &mut E) {
     let _ = write_text(errors, text.as_bytes());
 }
 
-/// Writes to the errors that fewer calls overlap than are asked for. It allocates no memory.
+/// Writes to the errors that fewer calls overlap than are asked for, if any are. It allocates no memory.
 pub(crate) fn tell_few<E: Write>(least: u32, errors: &mut E) {
+    if least == 0 {
+        return;
+    }
     try_text("fewer than ", errors);
     try_text(Buffer::new().format(least), errors);
     try_text(" calls overlapped\n", errors);
