@@ -1,6 +1,7 @@
 # fish completion for nrvs
 complete -c nrvs -n __fish_use_subcommand -f -a audit -d 'Prints whether a trace is right'
 complete -c nrvs -n __fish_use_subcommand -f -a explain -d 'Prints whether a trace is right, and what shows a fault'
+complete -c nrvs -n __fish_use_subcommand -f -a order -d 'Looks for an order of the calls of a trace'
 complete -c nrvs -n __fish_use_subcommand -f -a resolve -d 'Prints where an address leads in a dump'
 complete -c nrvs -n __fish_use_subcommand -f -a pages -d 'Prints the pages of a dump, or at an end of a chain'
 complete -c nrvs -n __fish_use_subcommand -f -a simulate -d 'Takes the steps of a script'
@@ -8,7 +9,7 @@ complete -c nrvs -n __fish_use_subcommand -f -a run -d 'Runs the threads of a sc
 complete -c nrvs -n __fish_use_subcommand -f -a help -d 'Prints help, or that of a command'
 complete -c nrvs -n __fish_use_subcommand -l version -d 'Prints the version'
 complete -c nrvs -l help -d 'Prints help'
-complete -c nrvs -n '__fish_seen_subcommand_from audit explain resolve pages' -F
+complete -c nrvs -n '__fish_seen_subcommand_from audit explain order resolve pages' -F
 complete -c nrvs -n '__fish_seen_subcommand_from audit explain pages' -l chain -d 'The input is a chain'
 complete -c nrvs -n '__fish_seen_subcommand_from audit' -l json -d 'Prints JSON objects'
 complete -c nrvs -n '__fish_seen_subcommand_from audit' -l quiet -d 'Prints nothing of right segments'
@@ -19,6 +20,8 @@ complete -c nrvs -n '__fish_seen_subcommand_from explain' -l json -d 'Prints one
 complete -c nrvs -n '__fish_seen_subcommand_from explain' -l all -d 'Prints what is wrong with each other dump'
 complete -c nrvs -n '__fish_seen_subcommand_from resolve' -l address -x -d 'A canonical address'
 complete -c nrvs -n '__fish_seen_subcommand_from resolve pages' -l replica -x -d 'The number of the replica'
+complete -c nrvs -n '__fish_seen_subcommand_from order' -l trace -d 'Prints the trace with the order that is found'
+complete -c nrvs -n '__fish_seen_subcommand_from order' -l steps -x -d 'The most steps of the search'
 complete -c nrvs -n '__fish_seen_subcommand_from resolve' -l steps -d 'Prints the entries that the walk reads'
 complete -c nrvs -n '__fish_seen_subcommand_from pages' -l ranges -d 'Joins pages that follow one another'
 complete -c nrvs -n '__fish_seen_subcommand_from pages' -l start -d 'The pages with which a chain begins'
