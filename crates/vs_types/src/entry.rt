@@ -1,5 +1,5 @@
-//! Page-table entries: the word of each kind, what a word means at a level, and all else that is known of an entry's bits. No other module,
-//! here or in another crate, has a bit of an entry of its own.
+//! Page-table entries: the word of each kind, what a word means at a level, and all else that is known of an entry's bits. No other module
+//! has a bit of an entry of its own, but that `vs_plan` and `vs_range` also test whether a word is odd, which is present.
 ghost use Rattle.std.specs.Prelude.{◌≡◌, ◌↔◌, ◌+◌, ◌<◌, ◌≤◌, ◌==◌, ◌*◌, ◌/◌, ◌%◌, ◌^◌, ℕ, IsTrue, IsFalse};
 ghost use Rattle.std.specs.Int.{bit_at};
 ghost use Rattle.vs_types.specs.declared.limits.TheConstants.{MOST_LEVELS};
@@ -209,7 +209,7 @@ pub fn read_written(level: u8, word: u64) -> Meaning
     Meaning::Leaf(word % ABOVE_ADDRESS / bytes * bytes, rights_of(word))
 }
 
-/// Whether a word above level 1 leads to a table.
+/// Whether a word above level 1 leads to a table. The clause is about `true` alone: after `false` its callers take the longer way.
 pub fn is_link(word: u64) -> bool
     ensures { IsTrue result → (level : ℕ) → 2 ≤ level
         → meaning level word ≡ Meaning.Table (word % 2 ^ 52 / 2 ^ 12) (rights_of word) }
