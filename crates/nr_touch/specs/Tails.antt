@@ -84,6 +84,10 @@ GoesOn (Some run) segment start = (start ≡ end_of run) × (segment.layout ≡ 
 abbrev pub KeepsChanges : Tail → Tail → Type 0
 KeepsChanges before after = take after.kept after.changes.items ≡ take after.kept before.changes.items
 
+-- all of them are said to be kept, and are
+abbrev pub KeepsAll : Tail → Tail → Type 0
+KeepsAll before after = (after.changes.items ≡ before.changes.items) × (after.kept ≡ length after.changes.items)
+
 -- what is left behind a run; behind none nothing is left, and no index is built
 abbrev pub IsTailOf : Option Run → Tail → Type 0
 IsTailOf None tail = (tail.changes.items ≡ []) × (tail.index ≡ None)

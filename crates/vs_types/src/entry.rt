@@ -1,11 +1,12 @@
-//! Page-table entries: the word of each kind, what a word means at a level, and all else that is known of an entry's bits. No other module
-//! has a bit of an entry of its own, but that `vs_plan` and `vs_range` also test whether a word is odd, which is present.
-ghost use Rattle.std.specs.Prelude.{◌≡◌, ◌↔◌, ◌+◌, ◌<◌, ◌≤◌, ◌==◌, ◌*◌, ◌/◌, ◌%◌, ◌^◌, ℕ, IsTrue, IsFalse};
+//! Page-table entries: the word of each kind, what a word means at a level, and all else that is known of an entry's bits. Other modules, here
+//! and in other crates, know one bit alone: a word that is odd is present.
+ghost use Rattle.std.specs.Prelude.{◌≡◌, ◌≢◌, ◌↔◌, ◌+◌, ◌<◌, ◌≤◌, ◌==◌, ◌*◌, ◌/◌, ◌%◌, ◌^◌, ℕ, IsTrue, IsFalse};
 ghost use Rattle.std.specs.Int.{bit_at};
 ghost use Rattle.vs_types.specs.declared.limits.TheConstants.{MOST_LEVELS};
 ghost use Rattle.vs_types.specs.Bits.{AreBits, HasFlagsSet, IsLowestReservedBit, IsWritten, bits_in, flagged, flags_into, page_word, placed, rights_at, rights_bits, unflagged, with_address, with_flags_of, with_rights};
 ghost use Rattle.vs_types.specs.Entry.{all_rights, leaf_word, meaning, rights_of};
 ghost use Rattle.vs_types.specs.Page.{bytes_of, intersection, level_of};
+ghost use Rattle.vs_types.specs.declared.page.Rights.{Rights as RightsRow};
 
 use crate::depth::entry_bytes;
 use crate::page::{Page, Rights, Size};
@@ -209,10 +210,12 @@ pub fn read_written(level: u8, word: u64) -> Meaning
     Meaning::Leaf(word % ABOVE_ADDRESS / bytes * bytes, rights_of(word))
 }
 
-/// Whether a word above level 1 leads to a table. The clause is about `true` alone: after `false` its callers take the longer way.
+/// Whether a word above level 1 leads to a table.
 pub fn is_link(word: u64) -> bool
-    ensures { IsTrue result → (level : ℕ) → 2 ≤ level
+    ensures yes { IsTrue result → (level : ℕ) → 2 ≤ level
         → meaning level word ≡ Meaning.Table (word % 2 ^ 52 / 2 ^ 12) (rights_of word) }
+    ensures no { IsFalse result → (level number : ℕ) (own : RightsRow)
+        → meaning level word ≢ Meaning.Table number own }
 {
     is_set(word, PRESENT) && !is_set(word, PAGE_SIZE)
 }
@@ -316,7 +319,8 @@ pub fn with_rights(word: u64, rights: Rights) -> u64
     word % 2 + write + user + word % TOP / ABOVE_RIGHTS * ABOVE_RIGHTS + no_fetch
 }
 
-/// The entry of a page of this size with this physical address, and its other bits as they were.
+/// The entry of a page of this size with this physical address, and its other bits as they were. The address is a multiple of the size, or
+/// what it has below that is added to those bits.
 pub fn with_address(size: Size, word: u64, phys: u64) -> u64
     requires in_range { phys + bytes_of size ≤ 2 ^ 52 }
     ensures { result ≡ with_address size word phys }

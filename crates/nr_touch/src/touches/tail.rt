@@ -4,7 +4,7 @@ ghost use Rattle.std.specs.Prelude.{◌≡◌, ◌↔◌, ◌+◌, ◌<◌, ◌�
 ghost use Rattle.std.specs.Prelude.{IfOk, IsTrue, OnOk, Option};
 ghost use Rattle.std.specs.List.Sorted.{IsNonDecreasingBy};
 ghost use Rattle.nr_joined.specs.Run.{Run};
-ghost use Rattle.nr_touch.specs.Tails.{ends_look, AreSound, IsSoundLeft, IsSoundTail, IsTailOf, KeepsChanges};
+ghost use Rattle.nr_touch.specs.Tails.{ends_look, AreSound, IsSoundLeft, IsSoundTail, IsTailOf, KeepsAll, KeepsChanges};
 ghost use Rattle.nr_touch.specs.declared.changes.change.PlacedChange.{PlacedChange};
 ghost use Rattle.nr_touch.specs.inside.Changes.{number_of, page_before};
 ghost use Rattle.nr_touch.specs.inside.Columns.{AreColumns, IsNumbered};
@@ -61,6 +61,7 @@ impl Tail {
         ensures tail { (before : Option Run) → IsTailOf before self → IsTailOf before result }
         ensures sound { IsSoundTail self → IsSoundTail result }
         ensures changes { KeepsChanges self result }
+        ensures all { KeepsAll self result }
     {
         let Tail {
             changes,

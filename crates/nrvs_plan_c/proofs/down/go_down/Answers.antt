@@ -32,10 +32,10 @@ returns-clause-shown c = λ did memory words shown read there.
     shown_on {stop = c.args.plan.now.way.stop} read descended.met descended.way there
     (ap (index_at c.args.plan.now.way.level) (sym (address_in c.args.plan.now.call)))
     (omega arith) (inr (refl, λ low. absurd (omega (arith, low, c.if-level-plan.false)))) (omega (arith, few, awaits.few)) (omega (arith, few, awaits.few))
-    awaits.some (c.is_link.ensures c.if-not-is_link.false c.args.plan.now.way.level (c.goes_on_below.ensures.some link)
+    awaits.some (c.is_link.ensures.yes c.if-not-is_link.false c.args.plan.now.way.level (c.goes_on_below.ensures.some link)
     ∙ ap (λ (n : ℕ). entry.Table (n / 4096) (rights_of c.args.word)) (sym c.address_bits-address.ensures))
     c.narrowed-plan.ensures (goes_down c.args.plan.now.way.phase c.requires.descent)
 
 pub returns-clause-link : goal.returns-clause-link
 returns-clause-link c = λ did.
-    c.is_link.ensures c.if-not-is_link.false c.args.plan.now.way.level (c.goes_on_below.ensures.some c.if-not-goes_on_below.false)
+    c.is_link.ensures.yes c.if-not-is_link.false c.args.plan.now.way.level (c.goes_on_below.ensures.some c.if-not-goes_on_below.false)

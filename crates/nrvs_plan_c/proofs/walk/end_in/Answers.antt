@@ -26,7 +26,7 @@ loop-level-preserved c =
           (frame_shown (target_of c.args.target.now) memory c.args.first c.loop-level.number c.args.frames.now has
           (c.are_within.ensures c.if-not-are_within.false)
           c.in-Some.words.now c.in-Some.ensures.there) c.index_at.ensures.is)
-          (c.is_link.ensures c.if-not-is_link.false c.loop-level.level (omega (arith, c.loop-level-test.true))
+          (c.is_link.ensures.yes c.if-not-is_link.false c.loop-level.level (omega (arith, c.loop-level-test.true))
           ∙ ap (λ (n : ℕ). entry.Table n (rights_of (slice_index c.in-Some.words.now.word c.index_at.result))) (sym c.linked_frame-number.ensures))
           c.narrowed-allowed.ensures,
     )
