@@ -34,8 +34,24 @@ fn has_other_pair<W: FrameWords>(words: &mut W, pair: usize) -> bool
     let eight = pair / 4 * 8;
     has_word(words, eight, pair * 2)
         || has_word(words, pair * 2 + 2, eight + 8)
-        || has_word(words, 0, eight)
-        || has_word(words, eight + 8, FRAME_WORDS)
+        || has_other_eight(words, pair / 4)
+}
+
+/// Whether a frame has a word other than 0 outside an eight. Each eight is looked at whole, and none behind the first that has one.
+fn has_other_eight<W: FrameWords>(words: &mut W, eight: usize) -> bool
+    requires unread { (i : ℕ) → i < FRAME_WORDS → i / 8 ≢ eight → W.is_unread words.old i }
+    ensures same { W.words words.new ≡ W.words words.old }
+    ensures none { IsFalse result → (i : ℕ) → i < FRAME_WORDS → i / 8 ≢ eight
+        → slice_index (W.words words.old) i ≡ 0 }
+    ensures other { IsTrue result
+        → (i : ℕ) × (i / 8 ≢ eight) × (slice_index (W.words words.old) i ≢ 0) }
+{
+    for at in 0..FRAME_WORDS / 8 {
+        if at != eight && has_word(words, at * 8, at * 8 + 8) {
+            return true;
+        }
+    }
+    false
 }
 
 /// Whether a word of a frame from one index to another is not 0: each is looked at.

@@ -9,7 +9,7 @@ ghost use Rattle.vs_plan.specs.inside.Ended.{IsAtEnd, IsRightWith};
 use crate::plan::{Flush, Plan, Reply, Store};
 use crate::planner::Planner;
 use crate::reading::FrameWords;
-use vs_types::{Answer, FRAME_WORDS, Size, index_at};
+use vs_types::{Answer, FRAME_WORDS, Size, index_at, is_present};
 
 impl Planner {
     /// Unlinks the table at the end of the way, which has these words, where none is present.
@@ -51,7 +51,7 @@ impl Planner {
             → slice_index (W.words words.old) i % 2 ≡ 0) }
     {
         self.level < self.target.highest_link()
-            && word % 2 == 0
+            && !is_present(word)
             && !has_other(words, index_at(self.level, address))
     }
 }
@@ -65,7 +65,7 @@ fn has_other<W: FrameWords>(words: &mut W, index: usize) -> bool
         → (i : ℕ) × (i < FRAME_WORDS) × (slice_index (W.words words.old) i % 2 ≢ 0) }
 {
     for i in 0..FRAME_WORDS {
-        if i != index && words.read(i) % 2 != 0 {
+        if i != index && is_present(words.read(i)) {
             return true;
         }
     }

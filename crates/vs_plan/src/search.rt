@@ -11,7 +11,7 @@ ghost use Rattle.vs_plan.specs.inside.Ended.{IsFirstPresent};
 use crate::plan::{Reply, Step};
 use crate::planner::Planner;
 use crate::reading::FrameWords;
-use vs_types::{Answer, Entry, FRAME_WORDS, Meaning, entry_offset};
+use vs_types::{Answer, Entry, FRAME_WORDS, Meaning, entry_offset, is_present};
 
 impl Planner {
     /// Goes on towards the first page below the level of the one that is to be mapped.
@@ -61,7 +61,7 @@ fn first_present<W: FrameWords>(words: &mut W) -> Option<(usize, u64)>
 {
     for index in 0..FRAME_WORDS {
         let word = words.read(index);
-        if word % 2 != 0 {
+        if is_present(word) {
             return Some((index, word));
         }
     }

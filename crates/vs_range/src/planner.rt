@@ -15,7 +15,7 @@ ghost use Rattle.vs_range.specs.Planner.{range_sees, range_sees_left};
 use crate::room::{are_pages, ends_late};
 use crate::run::Run;
 use vs_plan::{BadRequest, FrameWords, Phase, Plan, Planner, Request, Step, Target};
-use vs_types::{Page, Rights, Size, index_at};
+use vs_types::{Page, Rights, Size, index_at, is_present};
 
 /// A range of pages of a page table: what is done to them, how far they go, and how far the planner of the first one has come.
 ///
@@ -184,7 +184,7 @@ impl RangePlanner {
     {
         match self.planner.request {
             Request::Map(page, bits) => self.see_map(page, bits, word, words),
-            Request::Protect(_, _) | Request::Unmap(_) | Request::Ask(_) if word % 2 == 0 => {
+            Request::Protect(_, _) | Request::Unmap(_) | Request::Ask(_) if !is_present(word) => {
                 self.see_absent(words)
             }
             Request::Protect(_, rights) => self.see_protect(rights, word, words),

@@ -5,7 +5,7 @@ ghost use Rattle.vs_range.specs.Planner.{IsPageWord, HasOther};
 
 use crate::word::is_page;
 use vs_plan::FrameWords;
-use vs_types::FRAME_WORDS;
+use vs_types::{FRAME_WORDS, is_present};
 
 /// Words that are alike, and what was read of those behind them.
 #[derive(Clone, Copy)]
@@ -59,7 +59,7 @@ pub(crate) fn count_alike<W: FrameWords>(
     }
     while count < most {
         let word = words.read(index + count);
-        if word % 2 != bit {
+        if !has_bit(word, bit) {
             return Alike {
                 count,
                 from: index + count + 1,
@@ -72,6 +72,20 @@ pub(crate) fn count_alike<W: FrameWords>(
         count,
         from: index + count,
         other: false,
+    }
+}
+
+/// Whether the bit of a word that says whether it is present is this one.
+#[inline]
+fn has_bit(word: u64, bit: u64) -> bool
+    requires { bit < 2 }
+    ensures same { IsTrue result → word % 2 ≡ bit }
+    ensures other { IsFalse result → word % 2 ≢ bit }
+{
+    if bit == 1 {
+        is_present(word)
+    } else {
+        !is_present(word)
     }
 }
 
@@ -101,17 +115,17 @@ fn leading(four: &[u64; 4], bit: u64) -> usize
     ensures ends { result < 4 → slice_index four.now result % 2 ≢ bit }
 {
     let all = if bit == 0 {
-        (four[0] % 2 == 0) & (four[1] % 2 == 0) & (four[2] % 2 == 0) & (four[3] % 2 == 0)
+        !(is_present(four[0]) | is_present(four[1]) | is_present(four[2]) | is_present(four[3]))
     } else {
-        (four[0] % 2 == 1) & (four[1] % 2 == 1) & (four[2] % 2 == 1) & (four[3] % 2 == 1)
+        is_present(four[0]) & is_present(four[1]) & is_present(four[2]) & is_present(four[3])
     };
     if all {
         4
-    } else if four[0] % 2 != bit {
+    } else if !has_bit(four[0], bit) {
         0
-    } else if four[1] % 2 != bit {
+    } else if !has_bit(four[1], bit) {
         1
-    } else if four[2] % 2 != bit {
+    } else if !has_bit(four[2], bit) {
         2
     } else {
         3

@@ -15,7 +15,7 @@ use crate::room::{pages_in, phys_room};
 use crate::search::{count_alike, count_pages, removed};
 use crate::word::is_page;
 use vs_plan::FrameWords;
-use vs_types::{FRAME_WORDS, Page, Rights, Size, entry_bytes, index_at};
+use vs_types::{FRAME_WORDS, Page, Rights, Size, entry_bytes, index_at, is_present};
 
 impl RangePlanner {
     /// A run of absent entries from this word on, or the next step of the first page's planner.
@@ -65,7 +65,7 @@ impl RangePlanner {
         ensures none { result ≡ 0 → IsMapRoom self.now page word 1 → ⊥ }
     {
         let level = self.planner.level;
-        if level != page.size.level() || word % 2 != 0 || self.bytes < page.size.bytes() {
+        if level != page.size.level() || is_present(word) || self.bytes < page.size.bytes() {
             return 0;
         }
         if !self.planner.rights.permits(page.rights) {
