@@ -6,7 +6,7 @@ pub mod KnownAt
 pub mod Ways
 pub mod FirstFaults
 pub mod Changes
-pub mod Nearest
+pub mod NearestStretches
 pub mod Asking
 pub mod Memories
 pub mod Searches

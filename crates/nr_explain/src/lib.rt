@@ -22,6 +22,7 @@ pub use chain::reader::{ChainReader, ReaderStep};
 pub use chain::touches::fewest;
 pub use fields::{BadField, EventField, FieldFault, field_fault};
 pub use search::events::call_at;
+pub use search::nearest::nearest;
 pub use search::replies::reply_to;
 pub use search::spaces::{answer_after, apply_place, last_look};
 pub use tables::dumps::{difference, explain_dump};

@@ -95,7 +95,11 @@ fn tried(right: RightAfter, below: u32, above: u32, entries: u32, is: bool) -> R
 
 /// After how many entries the space answers a request so, from this space on: nearest below a number, and nearest above another and not
 /// below the first. Allocates memory for the space.
-pub(crate) fn nearest(
+///
+/// # Errors
+///
+/// `Memory` where a growth of memory was refused.
+pub fn nearest(
     trace: &Trace,
     start: PlainSpace,
     request: Request,

@@ -1,6 +1,6 @@
 use Rattle.std.proofs.Common.{ap, arith, sym}
 use Rattle.nr_explain.specs.inside.Nearest.{begun}
-use Rattle.nr_explain.proofs.Nearest.{begun_apart, begun_next}
+use Rattle.nr_explain.proofs.NearestStretches.{begun_apart, begun_next}
 use Rattle.nr_explain.proofs.search.nearest.begun.Goals as goal
 
 pub returns-in-None : goal.returns-in-None

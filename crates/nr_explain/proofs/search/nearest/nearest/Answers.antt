@@ -2,7 +2,7 @@ use Rattle.std.proofs.Common.{◌≡◌, ◌+◌, ℕ, length, refl, sym, ap, su
 use Rattle.nr_explain.specs.inside.Nearest.{IsNearestBelow}
 use Rattle.nr_explain.specs.declared.trace.nearby.RightAfter.{RightAfter}
 use Rattle.nr_explain.proofs.Asking.{right_at}
-use Rattle.nr_explain.proofs.Nearest.{near_tried, none_near}
+use Rattle.nr_explain.proofs.NearestStretches.{near_tried, none_near}
 use Rattle.nr_explain.proofs.search.nearest.nearest.Goals as goal
 
 pub apply_place-requires-clause-before : goal.apply_place-requires-clause-before

@@ -1,5 +1,5 @@
 use Rattle.std.proofs.Common.{arith}
-use Rattle.nr_explain.proofs.Nearest.{prolonged_apart, prolonged_next}
+use Rattle.nr_explain.proofs.NearestStretches.{prolonged_apart, prolonged_next}
 use Rattle.nr_explain.proofs.search.nearest.prolonged.Goals as goal
 
 pub returns-then-from : goal.returns-then-from
