@@ -1,6 +1,6 @@
 //! The events of traces.
 
-use nr_trace::{Event, Recorded};
+use nr_trace::{Asked, Event, Recorded};
 use std::alloc::Global;
 use std::process::Abort;
 use vs_types::{Access, Answer, BadOp, Depth, Mode, Op, Request, Rights, Size};
@@ -60,7 +60,7 @@ fn event_of(rt: &impl Abort, item: Item) -> Event {
         Item::Call(replica, thread, asks) => Event::Call {
             replica,
             thread,
-            request: request_of(asks).expect(rt, "a request"),
+            asked: Asked::Request(request_of(asks).expect(rt, "a request")),
         },
         Item::Reply(call, at, answer) => Event::Reply { call, at, answer },
     }

@@ -3,8 +3,8 @@
 use crate::audit::trace_of;
 use crate::audit_cases::{CALLS, Case, DUMPS, FORMATS, ORDERS};
 use crate::units::feed_in_units;
-use nr_explain::{Evidence, Explanation, TableEntry, explain_read};
-use nr_trace::Event;
+use nr_explain::{Evidence, Explanation, PlacedUpdate, TableEntry, explain_read};
+use nr_trace::{Asked, Event};
 use std::alloc::{AllocError, Global};
 use std::process::Abort;
 use vs_types::Answer;
@@ -18,13 +18,23 @@ fn after(number: Option<u32>) -> u64 {
     }
 }
 
+/// One more than the place of an update, or 0 for none.
+fn after_place(changed: &Option<PlacedUpdate>) -> u64 {
+    match changed {
+        Some(update) => u64::from(update.place) + 1,
+        None => 0,
+    }
+}
+
 /// 1 for a call, 2 for a reply, 3 for a touch, or 0 for none.
 fn kind_of(event: Option<Event>) -> u64 {
     match event {
-        Some(Event::Call { .. }) => 1,
+        Some(Event::Call { asked, .. }) => match asked {
+            Asked::Request(_) => 1,
+            Asked::Touch(_, _, _) => 3,
+            Asked::Release(_, _) => 4,
+        },
         Some(Event::Reply { .. }) => 2,
-        Some(Event::Touch { .. }) => 3,
-        Some(Event::Release { .. }) => 4,
         None => 0,
     }
 }
@@ -87,7 +97,7 @@ fn numbers_of_calls(numbers: &mut Vec<u64>, shown: &Evidence) -> Result<(), Allo
             u64::from(wrong.reply.event),
             wrong.address,
             number_of(wrong.wanted),
-            after(wrong.changed.map(|update| update.place)),
+            after_place(&wrong.changed),
         ]),
         _ => Ok(()),
     }
@@ -150,7 +160,7 @@ fn numbers_of_dumps(numbers: &mut Vec<u64>, shown: &Evidence) -> Result<(), Allo
             u64::from(wrong.applied),
             end_of(wrong.found),
             number_of(wrong.wanted),
-            after(wrong.changed.map(|update| update.place)),
+            after_place(&wrong.changed),
         ]),
         Evidence::Format(bad) => numbers.extend_from_slice(&[bad.offset, bad.read.len() as u64]),
         _ => Ok(()),

@@ -1,6 +1,6 @@
 //! Events come back as they were kept.
 
-use nr_trace::{Event, Recorded};
+use nr_trace::{Asked, Event, Recorded};
 use vs_types::{Access, Answer, BadOp, Depth, Mode, Op, Page, Request, Rights, Size};
 
 const SIZES: [Size; 3] = [Size::K4, Size::M2, Size::G1];
@@ -28,7 +28,7 @@ fn is_kept(request: Request) -> bool {
     let event = Event::Call {
         replica: u8::MAX,
         thread: u16::MAX,
-        request,
+        asked: Asked::Request(request),
     };
     Recorded::of(event).event() == event
 }

@@ -3,7 +3,7 @@ ghost use Rattle.std.specs.Prelude.{◌<◌};
 
 use crate::bytes::changed;
 use crate::trace::is_spelled;
-use nr_trace::{Event, Format, SegmentFeed, Trace, TraceLayout, Version, read};
+use nr_trace::{Asked, Event, Format, SegmentFeed, Trace, TraceLayout, Version, read};
 use std::alloc::Global;
 use std::process::Abort;
 use vs_types::{Access, Depth, Mode};
@@ -78,12 +78,10 @@ fn a_touch_is_an_access(rt: HostRuntime) {
     let segment = segment_of(&rt, rt.alloc(), &TOUCHES_NOTHING, 4096);
     assert_eq!(rt; segment.layout().threads(), 65_535);
     assert_eq!(rt; segment.layout().tables(), 65_535);
-    let touch = Event::Touch {
+    let touch = Event::Call {
         replica: 0,
         thread: 9,
-        address: 0x400123,
-        mode: Mode::User,
-        access: Access::Write,
+        asked: Asked::Touch(0x400123, Mode::User, Access::Write),
     };
     let first = segment.events().first().map(|recorded| recorded.event());
     assert!(rt; first == Some(touch));

@@ -3,7 +3,7 @@ use Rattle.std.proofs.Common.{◌≡◌, ℕ, Bool, false, ◌||◌, ◌++◌, L
 use Rattle.serde_json.specs.View.{items_of}
 use Rattle.serde_json.specs.Written.{has_float, items_have_float}
 use Rattle.nr_trace.specs.declared.event.Event.{Event}
-use Rattle.nr_trace.specs.declared.event.Event.TheVariants.{Call, Release, Reply, Touch}
+use Rattle.nr_trace.specs.declared.event.Event.TheVariants.{Call, Reply}
 use Rattle.nr_explain.specs.declared.trace.evidence.RecordedReply.{RecordedReply}
 use Rattle.nr_explain.specs.declared.trace.evidence.MissingTable.{MissingTable}
 use Rattle.nr_explain.specs.declared.trace.evidence.Owner.{Owner}
@@ -53,9 +53,7 @@ option (Some n) = refl
 
 event : (index : ℕ) (named : Option Event) → has_float (event_data index named) ≡ false
 event index None = refl
-event index (Some (Call replica thread request)) = refl
-event index (Some (Touch replica thread address mode access)) = refl
-event index (Some (Release replica thread size phys)) = refl
+event index (Some (Call replica thread asked)) = refl
 event index (Some (Reply call at answer)) = refl
 
 changed : (update : Option PlacedUpdate) → has_float (changed_data update) ≡ false

@@ -1,15 +1,14 @@
 -- The facts that show a fault as JSON: an object has its members by their names in the order of the alphabet.
-use Rattle.std.specs.Prelude.{ℕ, true, false, List, codes, map, Option, Some, None}
+use Rattle.std.specs.Prelude.{ℕ, List, codes, map, Option, Some, None}
 use Rattle.serde_json.specs.Data.{Data, array, member, no_members, null, number, object, string, unsigned}
 use Rattle.serde_json.specs.View.{items_of}
 use Rattle.nr_trace.specs.declared.event.Event.{Event}
-use Rattle.nr_trace.specs.declared.event.Event.TheVariants.{Call, Release, Reply, Touch}
+use Rattle.nr_trace.specs.declared.event.Event.TheVariants.{Call, Reply}
 use Rattle.nr_explain.specs.declared.chain.evidence.OpenUpdate.{OpenUpdate}
 use Rattle.nr_explain.specs.declared.trace.evidence.RecordedCall.{RecordedCall}
 use Rattle.nr_explain.specs.declared.trace.evidence.RecordedReply.{RecordedReply}
 use Rattle.nr_explain.specs.declared.trace.evidence.PlacedUpdate.{PlacedUpdate}
 use Rattle.nr_explain.specs.declared.trace.evidence.TableEntry.{TableEntry}
-use Rattle.vs_types.specs.declared.request.Query.TheVariants.{Access, Resolve}
 use Rattle.vs_text.specs.Words.{hexadecimal}
 use Rattle.audit_texts.specs.Text.{answer_text}
 use Rattle.audit_texts.specs.EvidenceText.{asked_text}
@@ -23,17 +22,13 @@ abbrev pub option_data : Option ℕ → Data
 option_data None = null
 option_data (Some n) = number_data n
 
--- a call that asks this
-abbrev pub called_data : ℕ → ℕ → ℕ → List ℕ → Data
-called_data event replica thread asked = object
-    (member (codes "event") (number_data event)
-    (member (codes "replica") (number_data replica)
-    (member (codes "request") (string asked)
-    (member (codes "thread") (number_data thread) no_members))))
-
 -- a recorded call, as a JSON object
 abbrev pub call_data : RecordedCall → Data
-call_data call = called_data call.event call.replica call.thread (asked_text call.touch call.gives call.request)
+call_data call = object
+    (member (codes "event") (number_data call.event)
+    (member (codes "replica") (number_data call.replica)
+    (member (codes "request") (string (asked_text call.asked))
+    (member (codes "thread") (number_data call.thread) no_members))))
 
 -- a recorded reply, as a JSON object
 abbrev pub reply_data : RecordedReply → Data
@@ -51,18 +46,7 @@ own_data (Some reply) = reply_data reply
 -- the event that a number names: a call, a touch, a release, a reply, or null
 abbrev pub event_data : ℕ → Option Event → Data
 event_data index None = null
-event_data index (Some (Call replica thread request)) =
-    call_data record { event = index; replica = replica; thread = thread; request = request; touch = false; gives = None }
-event_data index (Some (Touch replica thread address mode access)) =
-    call_data record { event = index; replica = replica; thread = thread; request = Access address mode access; touch = true; gives = None }
-event_data index (Some (Release replica thread size phys)) = call_data record {
-  event = index;
-  replica = replica;
-  thread = thread;
-  request = Resolve 0;
-  touch = true;
-  gives = Some (record { size = size; phys = phys });
-}
+event_data index (Some (Call replica thread asked)) = call_data record { event = index; replica = replica; thread = thread; asked = asked }
 event_data index (Some (Reply call at answer)) = reply_data record { event = index; call = call; at = at; answer = answer }
 
 -- an update and its place, or null

@@ -1,21 +1,20 @@
 -- The texts of facts that show a fault: calls, replies, entries of tables, units of a trace.
-use Rattle.std.specs.Prelude.{ℕ, ◌/◌, ◌%◌, ◌==◌, ◌++◌, Bool, true, false, List, [], ◌∷◌, take, codes, decimal, flat_map, if◌then◌else◌, Option, Some, None}
+use Rattle.std.specs.Prelude.{ℕ, ◌/◌, ◌%◌, ◌==◌, ◌++◌, false, List, [], ◌∷◌, take, codes, decimal, flat_map, if◌then◌else◌, Option, Some, None}
 use Rattle.std.specs.Fmt.{digits}
-use Rattle.vs_types.specs.declared.request.Query.{Query}
-use Rattle.vs_types.specs.declared.request.Query.TheVariants.{Update, Resolve, Access}
-use Rattle.vs_types.specs.declared.access.Access.{Access as Touched}
+use Rattle.vs_types.specs.declared.access.Access.{Access}
 use Rattle.vs_types.specs.declared.access.Mode.{Mode}
 use Rattle.vs_types.specs.declared.page.Size.{Size}
 use Rattle.vs_text.specs.Requests.{request_text}
 use Rattle.vs_text.specs.Words.{access_text, hexadecimal, mode_text, size_text, space}
 use Rattle.nr_trace.specs.declared.event.Event.{Event}
-use Rattle.nr_trace.specs.declared.event.Event.TheVariants.{Call, Release, Reply, Touch}
+use Rattle.nr_trace.specs.declared.event.Event.TheVariants.{Call, Reply}
+use Rattle.nr_trace.specs.declared.event.Asked.{Asked}
+use Rattle.nr_trace.specs.declared.event.Asked.TheVariants as askeds
 use Rattle.nr_trace.specs.declared.fault.Format.{Format}
 use Rattle.nr_trace.specs.declared.fault.Format.TheVariants as formats
 use Rattle.nr_trace.specs.declared.refusal.TraceUnit.{TraceUnit}
 use Rattle.nr_trace.specs.declared.refusal.TraceUnit.TheVariants as units
 use Rattle.nr_explain.specs.declared.chain.evidence.OpenUpdate.{OpenUpdate}
-use Rattle.nr_explain.specs.declared.trace.evidence.Given.{Given}
 use Rattle.nr_explain.specs.declared.trace.evidence.RecordedCall.{RecordedCall}
 use Rattle.nr_explain.specs.declared.trace.evidence.RecordedReply.{RecordedReply}
 use Rattle.nr_explain.specs.declared.trace.evidence.PlacedUpdate.{PlacedUpdate}
@@ -23,29 +22,23 @@ use Rattle.nr_explain.specs.declared.trace.evidence.TableEntry.{TableEntry}
 use Rattle.audit_texts.specs.Text.{answer_text, line_end}
 
 -- what a touch asks, which a script has not: in the words of an access
-abbrev pub touch_text : ℕ → Mode → Touched → List ℕ
+abbrev pub touch_text : ℕ → Mode → Access → List ℕ
 touch_text address mode access = codes "touch " ++ (mode_text mode ++ (space ++ (access_text access ++ (space ++ hexadecimal address))))
 
 -- what a release gives away: how much memory, and from which physical address on
 abbrev pub release_text : Size → ℕ → List ℕ
 release_text size phys = codes "release " ++ (size_text size ++ (space ++ hexadecimal phys))
 
--- what is asked by a call that isn't of the order: a release gives this away, and a touch asks this
-unfoldable pub outside_text : Option Given → Query → List ℕ
-outside_text (Some given) request = release_text given.size given.phys
-outside_text None (Access address mode access) = touch_text address mode access
-outside_text None (Resolve address) = request_text (Resolve address)
-outside_text None (Update action) = request_text (Update action)
-
 -- what is asked, in the words of a script; of a touch and of a release, which a script has not, in those of an access and of a map
-unfoldable pub asked_text : Bool → Option Given → Query → List ℕ
-asked_text false gives request = request_text request
-asked_text true gives request = outside_text gives request
+unfoldable pub asked_text : Asked → List ℕ
+asked_text (askeds.Request request) = request_text request
+asked_text (askeds.Touch address mode access) = touch_text address mode access
+asked_text (askeds.Release size phys) = release_text size phys
 
 -- the line of a call: its number, its thread, its replica and what it asks
 unfoldable pub call_line : RecordedCall → List ℕ
 call_line call = codes "call " ++ (decimal call.event ++ (codes ", thread " ++ (decimal call.thread ++ (codes ", replica " ++ (decimal call.replica
-    ++ (codes ": " ++ (asked_text call.touch call.gives call.request ++ line_end)))))))
+    ++ (codes ": " ++ (asked_text call.asked ++ line_end)))))))
 
 -- the line of a reply: its event, the call that it answers, its `at` and its answer
 unfoldable pub reply_line : RecordedReply → List ℕ
@@ -60,18 +53,8 @@ own_line (Some reply) = reply_line reply
 -- the line of the event that a number names, if there is one
 unfoldable pub event_line : ℕ → Option Event → List ℕ
 event_line number None = codes "event " ++ (decimal number ++ codes ": none\n")
-event_line number (Some (Call replica thread request)) =
-    call_line record { event = number; replica = replica; thread = thread; request = request; touch = false; gives = None }
-event_line number (Some (Touch replica thread address mode access)) =
-    call_line record { event = number; replica = replica; thread = thread; request = Access address mode access; touch = true; gives = None }
-event_line number (Some (Release replica thread size phys)) = call_line record {
-  event = number;
-  replica = replica;
-  thread = thread;
-  request = Resolve 0;
-  touch = true;
-  gives = Some (record { size = size; phys = phys });
-}
+event_line number (Some (Call replica thread asked)) =
+    call_line record { event = number; replica = replica; thread = thread; asked = asked }
 event_line number (Some (Reply call at answer)) = reply_line record { event = number; call = call; at = at; answer = answer }
 
 -- a number, if there is one

@@ -1,11 +1,12 @@
 -- The sentence of a fault: what is wrong, with the numbers that show it.
 use Rattle.std.specs.Prelude.{ℕ, ◌++◌, ◌==◌, List, [], ◌∷◌, length, codes, decimal, Option, Some, None, if◌then◌else◌}
-use Rattle.vs_types.specs.declared.request.Query.{Query}
-use Rattle.vs_types.specs.declared.request.Query.TheVariants.{Update, Resolve, Access}
+use Rattle.vs_types.specs.declared.request.Query.TheVariants.{Update}
 use Rattle.vs_text.specs.Requests.{request_text}
 use Rattle.vs_text.specs.Words.{hexadecimal, space}
 use Rattle.nr_trace.specs.declared.event.Event.{Event}
-use Rattle.nr_trace.specs.declared.event.Event.TheVariants.{Call, Release, Reply, Touch}
+use Rattle.nr_trace.specs.declared.event.Event.TheVariants.{Call, Reply}
+use Rattle.nr_trace.specs.declared.event.Asked.{Asked}
+use Rattle.nr_trace.specs.declared.event.Asked.TheVariants as askeds
 use Rattle.nr_trace.specs.declared.fault.Format.{Format}
 use Rattle.nr_trace.specs.declared.fault.Format.TheVariants as formats
 use Rattle.nr_trace.specs.FirstFault.{unit_size}
@@ -99,9 +100,9 @@ open_sentence calls = codes "Thread " ++ (decimal calls.second.thread ++ (codes 
 -- what an event is that is no earlier call
 unfoldable pub stray_text : Option Event → List ℕ
 stray_text None = codes "there is no such event"
-stray_text (Some (Call replica thread request)) = codes "that call is made later"
-stray_text (Some (Touch replica thread address mode access)) = codes "that touch is made later"
-stray_text (Some (Release replica thread size phys)) = codes "that release is made later"
+stray_text (Some (Call replica thread (askeds.Request request))) = codes "that call is made later"
+stray_text (Some (Call replica thread (askeds.Touch address mode access))) = codes "that touch is made later"
+stray_text (Some (Call replica thread (askeds.Release size phys))) = codes "that release is made later"
 stray_text (Some (Reply call at answer)) = codes "that event is a reply"
 
 -- the sentence on a reply to no earlier call
@@ -114,12 +115,16 @@ abbrev pub two_replies_sentence : TwoReplies → List ℕ
 two_replies_sentence replies = codes "Event " ++ (decimal replies.second.event ++ (codes " answers call " ++ (decimal replies.call.event
     ++ (codes " again: event " ++ (decimal replies.first.event ++ codes " had answered it.")))))
 
+-- what a call is that is no update
+unfoldable pub unlogged_call_text : Asked → List ℕ
+unlogged_call_text (askeds.Request request) = codes "that call only reads, " ++ request_text request
+unlogged_call_text (askeds.Touch address mode access) = codes "that event is a touch"
+unlogged_call_text (askeds.Release size phys) = codes "that event is a release"
+
 -- what an event is that is no update
 unfoldable pub unlogged_text : Option Event → List ℕ
 unlogged_text None = codes "there is no such event"
-unlogged_text (Some (Call replica thread request)) = codes "that call only reads, " ++ request_text request
-unlogged_text (Some (Touch replica thread address mode access)) = codes "that event is a touch"
-unlogged_text (Some (Release replica thread size phys)) = codes "that event is a release"
+unlogged_text (Some (Call replica thread asked)) = unlogged_call_text asked
 unlogged_text (Some (Reply call at answer)) = codes "that event is a reply"
 
 -- the sentence on a place that has no update
@@ -147,15 +152,18 @@ abbrev pub past_end_sentence : PastEnd → List ℕ
 past_end_sentence wrong = codes "Event " ++ (decimal wrong.reply.event ++ (codes " says that call " ++ (decimal wrong.call.event
     ++ (codes " saw " ++ (entries_text wrong.reply.at ++ (codes " of the log, which has " ++ (decimal wrong.places ++ codes ".")))))))
 
+-- from how many entries of the log a call was answered
+abbrev pub seen_text : ℕ → List ℕ
+seen_text entries = codes "was answered from " ++ entries_text entries
+
 -- after how many entries of the log a call is
-unfoldable pub stands_text : Query → ℕ → List ℕ
-stands_text (Update action) entries = codes "is at place " ++ decimal entries
-stands_text (Resolve address) entries = codes "was answered from " ++ entries_text entries
-stands_text (Access address mode access) entries = codes "was answered from " ++ entries_text entries
+unfoldable pub stands_text : Asked → ℕ → List ℕ
+stands_text (askeds.Request (Update action)) entries = codes "is at place " ++ decimal entries
+stands_text asked entries = seen_text entries
 
 -- the sentence on a call that comes too early
 abbrev pub early_sentence : EarlyCall → List ℕ
-early_sentence early = codes "Call " ++ (decimal early.call.event ++ (space ++ (stands_text early.call.request early.entries
+early_sentence early = codes "Call " ++ (decimal early.call.event ++ (space ++ (stands_text early.call.asked early.entries
     ++ (codes " of the log, but before it was made a reply had shown " ++ (decimal early.floor ++ codes ".")))))
 
 -- the sentence on an answer that the space does not give

@@ -3,17 +3,15 @@
 ghost use Rattle.std.specs.Prelude.{◌≡◌, IfOk, OnOk, Some, map, string_bytes};
 ghost use Rattle.serde_json.specs.Data.{put as with_member, string};
 ghost use Rattle.serde_json.specs.View.{members_view, view};
-ghost use Rattle.nr_trace.specs.declared.event.Event.TheVariants as events;
-ghost use Rattle.audit_texts.specs.EvidenceJson.{call_data, called_data, changed_data, event_data, option_data, own_data, reply_data};
+ghost use Rattle.audit_texts.specs.EvidenceJson.{call_data, changed_data, event_data, option_data, own_data, reply_data};
 ghost use Rattle.audit_texts.specs.EvidenceJson.{step_data, taken_data, way_data};
 
 use crate::answer::answer_text;
-use crate::fact_text::{address_text, asked_text, release_text, touch_text};
+use crate::fact_text::{address_text, asked_text};
 use nr_explain::{OpenUpdate, PlacedUpdate, RecordedCall, RecordedReply, TableEntry};
 use nr_trace::Event;
 use serde_json::{Map, Value, put};
 use std::alloc::{AllocError, Global};
-use vs_types::{Access, Mode, Size};
 
 /// The members of an object.
 pub type Members = Map<String, Value>;
@@ -45,31 +43,17 @@ pub(crate) fn option_value(number: Option<u32>) -> Value
     }
 }
 
-/// A call that asks this.
-fn called_value(
-    alloc: Global,
-    event: u32,
-    replica: u8,
-    thread: u16,
-    asked: String,
-) -> Result<Value, AllocError>
-    ensures { IfOk result (λ value. view value
-        ≡ called_data event replica thread (string_bytes asked)) }
-{
-    let mut members = Map::new(alloc);
-    put(&mut members, alloc, "request", Value::String(asked))?;
-    put(&mut members, alloc, "event", Value::from(event))?;
-    put(&mut members, alloc, "replica", Value::from(replica))?;
-    put(&mut members, alloc, "thread", Value::from(thread))?;
-    Ok(Value::Object(members))
-}
-
 /// A call.
 pub(crate) fn call_value(alloc: Global, call: RecordedCall) -> Result<Value, AllocError>
     ensures { IfOk result (λ value. view value ≡ call_data call) }
 {
-    let asked = asked_text(alloc, call.touch, call.gives, call.request)?;
-    called_value(alloc, call.event, call.replica, call.thread, asked)
+    let asked = asked_text(alloc, call.asked)?;
+    let mut members = Map::new(alloc);
+    put(&mut members, alloc, "request", Value::String(asked))?;
+    put(&mut members, alloc, "event", Value::from(call.event))?;
+    put(&mut members, alloc, "replica", Value::from(call.replica))?;
+    put(&mut members, alloc, "thread", Value::from(call.thread))?;
+    Ok(Value::Object(members))
 }
 
 /// A reply.
@@ -95,39 +79,6 @@ pub(crate) fn own_value(alloc: Global, own: Option<RecordedReply>) -> Result<Val
     }
 }
 
-#[tactic(auto, unfolding(crate::specs::EvidenceText::asked_text, crate::specs::EvidenceText::outside_text))]
-fn touch_value(
-    alloc: Global,
-    index: u32,
-    replica: u8,
-    thread: u16,
-    address: u64,
-    mode: Mode,
-    access: Access,
-) -> Result<Value, AllocError>
-    ensures { IfOk result (λ value. view value
-        ≡ event_data index (Some (events.Touch replica thread address mode access))) }
-{
-    let asked = touch_text(alloc, address, mode, access)?;
-    called_value(alloc, index, replica, thread, asked)
-}
-
-#[tactic(auto, unfolding(crate::specs::EvidenceText::asked_text, crate::specs::EvidenceText::outside_text))]
-fn release_value(
-    alloc: Global,
-    index: u32,
-    replica: u8,
-    thread: u16,
-    size: Size,
-    phys: u64,
-) -> Result<Value, AllocError>
-    ensures { IfOk result (λ value. view value
-        ≡ event_data index (Some (events.Release replica thread size phys))) }
-{
-    let asked = release_text(alloc, size, phys)?;
-    called_value(alloc, index, replica, thread, asked)
-}
-
 fn one_event_value(alloc: Global, index: u32, event: Event) -> Result<Value, AllocError>
     ensures { IfOk result (λ value. view value ≡ event_data index (Some event)) }
 {
@@ -135,31 +86,16 @@ fn one_event_value(alloc: Global, index: u32, event: Event) -> Result<Value, All
         Event::Call {
             replica,
             thread,
-            request,
+            asked,
         } => {
             let call = RecordedCall {
                 event: index,
                 replica,
                 thread,
-                request,
-                touch: false,
-                gives: None,
+                asked,
             };
             call_value(alloc, call)
         }
-        Event::Touch {
-            replica,
-            thread,
-            address,
-            mode,
-            access,
-        } => touch_value(alloc, index, replica, thread, address, mode, access),
-        Event::Release {
-            replica,
-            thread,
-            size,
-            phys,
-        } => release_value(alloc, index, replica, thread, size, phys),
         Event::Reply { call, at, answer } => {
             let reply = RecordedReply {
                 event: index,

@@ -1,26 +1,20 @@
 //! The lines of what evidence is made of: calls, replies, entries of tables.
 
 ghost use Rattle.std.specs.Prelude.{◌≡◌, ◌++◌, IfOk, OnOk, Some, decimal, string_bytes};
-ghost use Rattle.nr_trace.specs.declared.event.Event.TheVariants as events;
 ghost use Rattle.vs_text.specs.Words.{hexadecimal};
 ghost use Rattle.audit_texts.specs.EvidenceText.{asked_text, call_line, changed_line, event_line, format_lines, option_text, own_line};
-ghost use Rattle.audit_texts.specs.EvidenceText.{outside_text, release_text, reply_line, reserved_text, step_line, steps_lines};
+ghost use Rattle.audit_texts.specs.EvidenceText.{release_text, reply_line, reserved_text, step_line, steps_lines};
 ghost use Rattle.audit_texts.specs.EvidenceText.{taken_lines, touch_text, way_lines};
 
 use crate::answer::answer_text;
-use nr_explain::{Given, OpenUpdate, PlacedUpdate, RecordedCall, RecordedReply, TableEntry};
-use nr_trace::{Event, Format};
+use nr_explain::{OpenUpdate, PlacedUpdate, RecordedCall, RecordedReply, TableEntry};
+use nr_trace::{Asked, Event, Format};
 use std::alloc::{AllocError, Global};
 use vs_text::{access_text, mode_text, request_text, size_text};
-use vs_types::{Access, Answer, Mode, Query, Request, Size};
+use vs_types::{Access, Answer, Mode, Size};
 
 /// What a touch asks.
-pub(crate) fn touch_text(
-    alloc: Global,
-    address: u64,
-    mode: Mode,
-    access: Access,
-) -> Result<String, AllocError>
+fn touch_text(alloc: Global, address: u64, mode: Mode, access: Access) -> Result<String, AllocError>
     ensures { IfOk result (λ text. string_bytes text ≡ touch_text address mode access) }
 {
     let mode = mode_text(mode);
@@ -29,41 +23,22 @@ pub(crate) fn touch_text(
 }
 
 /// What a release gives away.
-pub(crate) fn release_text(alloc: Global, size: Size, phys: u64) -> Result<String, AllocError>
+fn release_text(alloc: Global, size: Size, phys: u64) -> Result<String, AllocError>
     ensures { IfOk result (λ text. string_bytes text ≡ release_text size phys) }
 {
     let size = size_text(size);
     format!(in alloc; "release {size} 0x{phys:x}")
 }
 
-/// What a call asks that isn't of the order.
-#[tactic(auto, unfolding(crate::specs::EvidenceText::outside_text))]
-fn outside_text(alloc: Global, gives: Option<Given>, request: Request) -> Result<String, AllocError>
-    ensures { IfOk result (λ text. string_bytes text ≡ outside_text gives request) }
-{
-    if let Some(given) = gives {
-        return release_text(alloc, given.size, given.phys);
-    }
-    match request.query() {
-        Query::Access(address, mode, access) => touch_text(alloc, address, mode, access),
-        Query::Update(_) | Query::Resolve(_) => request_text(alloc, request),
-    }
-}
-
 /// What a call asks.
 #[tactic(auto, unfolding(crate::specs::EvidenceText::asked_text))]
-pub(crate) fn asked_text(
-    alloc: Global,
-    touch: bool,
-    gives: Option<Given>,
-    request: Request,
-) -> Result<String, AllocError>
-    ensures { IfOk result (λ text. string_bytes text ≡ asked_text touch gives request) }
+pub(crate) fn asked_text(alloc: Global, asked: Asked) -> Result<String, AllocError>
+    ensures { IfOk result (λ text. string_bytes text ≡ asked_text asked) }
 {
-    if touch {
-        outside_text(alloc, gives, request)
-    } else {
-        request_text(alloc, request)
+    match asked {
+        Asked::Request(request) => request_text(alloc, request),
+        Asked::Touch(address, mode, access) => touch_text(alloc, address, mode, access),
+        Asked::Release(size, phys) => release_text(alloc, size, phys),
     }
 }
 
@@ -72,7 +47,7 @@ pub(crate) fn asked_text(
 pub(crate) fn call_line(alloc: Global, call: RecordedCall) -> Result<String, AllocError>
     ensures { IfOk result (λ text. string_bytes text ≡ call_line call) }
 {
-    let asked = asked_text(alloc, call.touch, call.gives, call.request)?;
+    let asked = asked_text(alloc, call.asked)?;
     let event = call.event;
     let thread = call.thread;
     let replica = call.replica;
@@ -102,41 +77,6 @@ pub(crate) fn own_line(alloc: Global, own: Option<RecordedReply>) -> Result<Stri
     }
 }
 
-/// The line of a touch.
-#[tactic(auto, unfolding(crate::specs::EvidenceText::event_line, crate::specs::EvidenceText::call_line, crate::specs::EvidenceText::asked_text, crate::specs::EvidenceText::outside_text))]
-fn touch_line(
-    alloc: Global,
-    index: u32,
-    replica: u8,
-    thread: u16,
-    address: u64,
-    mode: Mode,
-    access: Access,
-) -> Result<String, AllocError>
-    ensures { IfOk result (λ text. string_bytes text
-        ≡ event_line index (Some (events.Touch replica thread address mode access))) }
-{
-    let asked = touch_text(alloc, address, mode, access)?;
-    format!(in alloc; "call {index}, thread {thread}, replica {replica}: {asked}\n")
-}
-
-/// The line of a release.
-#[tactic(auto, unfolding(crate::specs::EvidenceText::event_line, crate::specs::EvidenceText::call_line, crate::specs::EvidenceText::asked_text, crate::specs::EvidenceText::outside_text))]
-fn release_line(
-    alloc: Global,
-    index: u32,
-    replica: u8,
-    thread: u16,
-    size: Size,
-    phys: u64,
-) -> Result<String, AllocError>
-    ensures { IfOk result (λ text. string_bytes text
-        ≡ event_line index (Some (events.Release replica thread size phys))) }
-{
-    let asked = release_text(alloc, size, phys)?;
-    format!(in alloc; "call {index}, thread {thread}, replica {replica}: {asked}\n")
-}
-
 /// The line of an event.
 #[tactic(auto, unfolding(crate::specs::EvidenceText::event_line))]
 fn one_event_line(alloc: Global, index: u32, event: Event) -> Result<String, AllocError>
@@ -146,31 +86,16 @@ fn one_event_line(alloc: Global, index: u32, event: Event) -> Result<String, All
         Event::Call {
             replica,
             thread,
-            request,
+            asked,
         } => {
             let call = RecordedCall {
                 event: index,
                 replica,
                 thread,
-                request,
-                touch: false,
-                gives: None,
+                asked,
             };
             call_line(alloc, call)
         }
-        Event::Touch {
-            replica,
-            thread,
-            address,
-            mode,
-            access,
-        } => touch_line(alloc, index, replica, thread, address, mode, access),
-        Event::Release {
-            replica,
-            thread,
-            size,
-            phys,
-        } => release_line(alloc, index, replica, thread, size, phys),
         Event::Reply { call, at, answer } => {
             let reply = RecordedReply {
                 event: index,

@@ -5,9 +5,9 @@ ghost use Rattle.vs_text.specs.Words.{hexadecimal};
 ghost use Rattle.audit_texts.specs.Sentence.{bad_unit_sentence, cut_text, difference_sentence, early_sentence, entries_text, event_text};
 ghost use Rattle.audit_texts.specs.Sentence.{frame_text, leads_text, long_prefix_sentence, misplaced_sentence, missing_sentence};
 ghost use Rattle.audit_texts.specs.Sentence.{no_update_sentence, noun, open_sentence, other_answer_sentence, past_end_sentence};
-ghost use Rattle.audit_texts.specs.Sentence.{reason_text, reserved_sentence, sentence_text, shared_sentence, short_prefix_sentence};
+ghost use Rattle.audit_texts.specs.Sentence.{reason_text, reserved_sentence, seen_text, sentence_text, shared_sentence, short_prefix_sentence};
 ghost use Rattle.audit_texts.specs.Sentence.{stands_text, start_text, stray_reply_sentence, stray_sentence, stray_text, there_text};
-ghost use Rattle.audit_texts.specs.Sentence.{two_places_sentence, two_replies_sentence, unlogged_text, updates_text, version_text};
+ghost use Rattle.audit_texts.specs.Sentence.{two_places_sentence, two_replies_sentence, unlogged_call_text, unlogged_text, updates_text, version_text};
 
 use crate::answer::answer_text;
 use crate::field_text::since_text;
@@ -19,10 +19,10 @@ use nr_explain::{
     NoUpdate, OpenCalls, OtherAnswer, Owner, PastEnd, ReservedEntry, SharedTable, ShortPrefix,
     StrayReply, StrayTable, TableEntry, TwoPlaces, TwoReplies,
 };
-use nr_trace::{Event, Format};
+use nr_trace::{Asked, Event, Format};
 use std::alloc::{AllocError, Global};
 use vs_text::request_text;
-use vs_types::{Query, Request};
+use vs_types::Query;
 
 /// The word for one of them, or for none or more.
 fn noun(number: u32, one: &'static str, more: &'static str) -> &'static str
@@ -141,9 +141,11 @@ fn stray_text(named: Option<Event>) -> &'static str
 {
     match named {
         None => "there is no such event",
-        Some(Event::Call { .. }) => "that call is made later",
-        Some(Event::Touch { .. }) => "that touch is made later",
-        Some(Event::Release { .. }) => "that release is made later",
+        Some(Event::Call { asked, .. }) => match asked {
+            Asked::Request(_) => "that call is made later",
+            Asked::Touch(_, _, _) => "that touch is made later",
+            Asked::Release(_, _) => "that release is made later",
+        },
         Some(Event::Reply { .. }) => "that event is a reply",
     }
 }
@@ -166,22 +168,28 @@ fn two_replies_sentence(alloc: Global, replies: TwoReplies) -> Result<String, Al
     format!(in alloc; "Event {second} answers call {call} again: event {first} had answered it.")
 }
 
+/// What a call is that is no update.
+#[tactic(auto, unfolding(crate::specs::Sentence::unlogged_call_text))]
+fn unlogged_call(alloc: Global, asked: Asked) -> Result<String, AllocError>
+    ensures { IfOk result (λ text. string_bytes text ≡ unlogged_call_text asked) }
+{
+    match asked {
+        Asked::Request(request) => {
+            let asked = request_text(alloc, request)?;
+            format!(in alloc; "that call only reads, {asked}")
+        }
+        Asked::Touch(_, _, _) => String::from_str(alloc, "that event is a touch"),
+        Asked::Release(_, _) => String::from_str(alloc, "that event is a release"),
+    }
+}
+
 /// What a call or a reply is that is no update.
 #[tactic(auto, unfolding(crate::specs::Sentence::unlogged_text))]
 fn unlogged_event(alloc: Global, event: Event) -> Result<String, AllocError>
     ensures { IfOk result (λ text. string_bytes text ≡ unlogged_text (Some event)) }
 {
     match event {
-        Event::Call {
-            replica: _,
-            thread: _,
-            request,
-        } => {
-            let asked = request_text(alloc, request)?;
-            format!(in alloc; "that call only reads, {asked}")
-        }
-        Event::Touch { .. } => String::from_str(alloc, "that event is a touch"),
-        Event::Release { .. } => String::from_str(alloc, "that event is a release"),
+        Event::Call { asked, .. } => unlogged_call(alloc, asked),
         Event::Reply { .. } => String::from_str(alloc, "that event is a reply"),
     }
 }
@@ -254,17 +262,25 @@ fn past_end_sentence(alloc: Global, wrong: PastEnd) -> Result<String, AllocError
     )
 }
 
+/// From how many entries of the log a call was answered.
+fn seen_text(alloc: Global, entries: u32) -> Result<String, AllocError>
+    ensures { IfOk result (λ text. string_bytes text ≡ seen_text entries) }
+{
+    let seen = entries_text(alloc, entries)?;
+    format!(in alloc; "was answered from {seen}")
+}
+
 /// After how many entries of the log a call is.
 #[tactic(auto, unfolding(crate::specs::Sentence::stands_text))]
-fn stands_text(alloc: Global, request: Request, entries: u32) -> Result<String, AllocError>
-    ensures { IfOk result (λ text. string_bytes text ≡ stands_text request entries) }
+fn stands_text(alloc: Global, asked: Asked, entries: u32) -> Result<String, AllocError>
+    ensures { IfOk result (λ text. string_bytes text ≡ stands_text asked entries) }
 {
-    match request.query() {
-        Query::Update(_) => format!(in alloc; "is at place {entries}"),
-        Query::Resolve(_) | Query::Access(_, _, _) => {
-            let seen = entries_text(alloc, entries)?;
-            format!(in alloc; "was answered from {seen}")
-        }
+    match asked {
+        Asked::Request(request) => match request.query() {
+            Query::Update(_) => format!(in alloc; "is at place {entries}"),
+            Query::Resolve(_) | Query::Access(_, _, _) => seen_text(alloc, entries),
+        },
+        Asked::Touch(_, _, _) | Asked::Release(_, _) => seen_text(alloc, entries),
     }
 }
 
@@ -272,7 +288,7 @@ fn early_sentence(alloc: Global, early: EarlyCall) -> Result<String, AllocError>
     ensures { IfOk result (λ text. string_bytes text ≡ early_sentence early) }
 {
     let call = early.call.event;
-    let stands = stands_text(alloc, early.call.request, early.entries)?;
+    let stands = stands_text(alloc, early.call.asked, early.entries)?;
     let floor = early.floor;
     format!(in alloc;
         "Call {call} {stands} of the log, but before it was made a reply had shown {floor}."

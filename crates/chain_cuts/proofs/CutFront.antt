@@ -5,7 +5,7 @@ use Rattle.std.proofs.lemmas.Option.{none-some, slice_get-get_or, slice_get_with
 use Rattle.vs_types.specs.Space.{Space}
 use Rattle.vs_walk.specs.Dump.{Image}
 use Rattle.nr_trace.specs.Recording.{Recording}
-use Rattle.nr_trace.specs.Calls.{call_of, IsCall, IsUpdate, IsRead, Response, reply_of}
+use Rattle.nr_trace.specs.Calls.{call_of, request_of, IsCall, IsUpdate, IsRead, Response, reply_of}
 use Rattle.nr_trace.specs.Orders.{before, space_from, answer_in, recorded_order, known_by, floor}
 use Rattle.nr_trace.specs.Faults.{OpensTwice, IsWrongFrom, StandsAfter}
 use Rattle.nr_trace.specs.Laws.{HasCleanLog, IsFaultlessFrom}
@@ -13,15 +13,16 @@ use Rattle.nr_trace.specs.declared.fault.Fault.TheVariants.{ThreadOpen, NoSuchCa
 use Rattle.nr_trace.specs.declared.fault.Fault.TheVariants.{WrongAnswer, PrefixPastLog, PrefixShort, MissingFrame, SharedFrame, ReservedBit, StrayFrame}
 use Rattle.nr_trace.specs.declared.fault.Fault.TheVariants.{Differs}
 use Rattle.nr_trace.proofs.LawsOfLists.{In}
-use Rattle.nr_trace.proofs.LawsOfCalls.{answered_stands, behind_its_call, call_within, is_some_from, read_is_call, reply_below, update_from_not_not, update_is_call}
-use Rattle.nr_trace.proofs.LawsOfCalls.{ordered_from_made}
+use Rattle.nr_trace.proofs.LawsOfCalls.{answered_stands, behind_its_call, call_within, is_some_from}
+use Rattle.nr_trace.proofs.LawsOfCalls.{read_is_call, reply_below, update_from_not_not, update_is_call}
+use Rattle.nr_trace.proofs.LawsOfCalls.{ordered_from_request, request_is_call}
 use Rattle.nr_trace.proofs.LawsOfOrder.{member_stands, standing_is_member}
 use Rattle.nr_trace.proofs.LawsOfPrecedence.{known_of_read}
 use Rattle.chain_cuts.specs.Cut.{without_dumps, IsCutAt}
 use Rattle.nr_joined.specs.Joined.{calls_behind, joined_traces}
 use Rattle.nr_joined.proofs.Lists.{before_left, before_in}
 use Rattle.nr_joined.proofs.Orders.{space_left}
-use Rattle.nr_joined.proofs.Parts.{call_left, reply_left, answers_left, answers_to_left, reply_to_left, is_call_left}
+use Rattle.nr_joined.proofs.Parts.{call_left, request_left, reply_left, answers_left, answers_to_left, reply_to_left, is_call_left}
 use Rattle.nr_joined.proofs.Parts.{is_update_left, is_update_from_left}
 use Rattle.nr_joined.proofs.Places.{is_read_from_left, placed_left, placed_in, placed_before, PlacedRight, stands_left, known_left, floor_above, knows_more}
 use Rattle.nr_chain.proofs.Recorded.{recorded_both}
@@ -144,19 +145,18 @@ module _ (start : Space) (first second : Recording) (closed : IsCutAt first seco
 
   right : (call : ℕ) → IsWrongFrom start first call → ⊥
   right call h =
-      let own : call < length first.events = call_within first call (is_some_from (call_of first call) h.made h.is_made) in
-      let (stands, most) = answered_stands first call h.reply clean_front (ordered_from_made first call h.made h.is_made h.no_touch) h.is_reply in
+      let own : call < length first.events = call_within first call (request_is_call first call (is_some_from (request_of first call) h.request h.asks)) in
+      let (stands, most) = answered_stands first call h.reply clean_front (ordered_from_request first call h.request h.asks) h.is_reply in
       let member = standing_is_member first h.reply.at call most stands in
       let space : space_from start whole (before call (recorded_order whole)) ≡ space_from start first (before call (recorded_order first)) =
       ap (λ (calls : List ℕ). space_from start whole calls) (same_before call member)
       ∙ space_left start first second (before call (recorded_order first)) (before_within first clean_front call) in
       faultless (WrongAnswer call) (record {
-        made = h.made;
-        is_made = call_left first second call own ∙ h.is_made;
-        no_touch = h.no_touch;
+        request = h.request;
+        asks = request_left first second call own ∙ h.asks;
         reply = h.reply;
         is_reply = reply_to_left first second call own ∙ h.is_reply;
-        differs = λ e. h.differs (e ∙ ap (λ (s : Space). answer_in first.layout s h.made.request) space);
+        differs = λ e. h.differs (e ∙ ap (λ (s : Space). answer_in first.layout s h.request) space);
       })
 
   none_there : (replica : ℕ) (dump : Image) → slice_get [] replica ≡ Some dump → ⊥
@@ -181,7 +181,7 @@ module _ (start : Space) (first second : Recording) (closed : IsCutAt first seco
   front_faultless (PastLog index) h = clean_front.none_past_log index h
   front_faultless (Early call) h = in_time call h.0 h.1 h.2
   front_faultless (WrongAnswer call) h =
-      right call (record { made = h.made; is_made = h.is_made; no_touch = h.no_touch; reply = h.reply; is_reply = h.is_reply; differs = h.differs })
+      right call (record { request = h.request; asks = h.asks; reply = h.reply; is_reply = h.is_reply; differs = h.differs })
   front_faultless (PrefixPastLog replica) h = none_there replica h.0 h.1
   front_faultless (PrefixShort replica) h = none_there replica h.0 h.1
   front_faultless (MissingFrame replica number) h = none_there replica h.0 h.1

@@ -20,7 +20,8 @@ use Rattle.nr_trace.proofs.LawsOfOrder.{updates_of_order, member_stands}
 use Rattle.nr_joined.specs.Joined.{calls_behind, dump_behind, joined_traces}
 use Rattle.nr_joined.proofs.Lists.{before_right, before_behind, take_behind}
 use Rattle.nr_joined.proofs.Orders.{AreOf, space_both, space_of_updates}
-use Rattle.nr_joined.proofs.Parts.{call_right, reply_right, reply_behind, HasEarlierCalls, answered_right, answers_to_right, reply_to_right, is_call_right}
+use Rattle.nr_joined.proofs.Parts.{call_right, request_right, reply_right, reply_behind, HasEarlierCalls}
+use Rattle.nr_joined.proofs.Parts.{answered_right, answers_to_right, reply_to_right, is_call_right}
 use Rattle.nr_joined.proofs.Parts.{is_update_right, is_update_from_right}
 use Rattle.nr_joined.proofs.Places.{is_read_from_right, placed_right, placed_in_right, stands_right, known_right, floor_above, knows_more}
 use Rattle.nr_chain.proofs.Recorded.{recorded_both, places_of_both}
@@ -181,13 +182,12 @@ module _ (start : Space) (first second : Recording) (same_layout : second.layout
 
   right : (call : ℕ) → IsWrongFrom space second call → ⊥
   right call h = faultless (WrongAnswer (length first.events + call)) (record {
-    made = h.made;
-    is_made = call_right first second call ∙ h.is_made;
-    no_touch = h.no_touch;
+    request = h.request;
+    asks = request_right first second call ∙ h.asks;
     reply = behind h.reply;
     is_reply = reply_to_right first second call earlier ∙ ap (option_map behind) h.is_reply;
-    differs = λ e. h.differs (e ∙ ap (λ (s : Space). answer_in first.layout s h.made.request) (space_before_right start first second same_layout clean call)
-        ∙ ap (λ (layout : Layout). answer_in layout (space_from space second (before call (recorded_order second))) h.made.request) (sym same_layout));
+    differs = λ e. h.differs (e ∙ ap (λ (s : Space). answer_in first.layout s h.request) (space_before_right start first second same_layout clean call)
+        ∙ ap (λ (layout : Layout). answer_in layout (space_from space second (before call (recorded_order second))) h.request) (sym same_layout));
   })
 
   dump_there : (replica : ℕ) (dump : Image) → slice_get second.dumps replica ≡ Some dump

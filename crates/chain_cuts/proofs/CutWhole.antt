@@ -9,7 +9,8 @@ use Rattle.vs_types.specs.declared.op.Action.{Action}
 use Rattle.vs_walk.specs.Differences.{HasMissingFrame, HasSharedFrame, HasReservedBit, HasStrayFrame, HasDifference}
 use Rattle.vs_walk.specs.Dump.{Image}
 use Rattle.nr_trace.specs.Recording.{IsThere, Recording}
-use Rattle.nr_trace.specs.Calls.{Invocation, call_of, operation_of, touch_of, IsCall, IsOrdered, IsTouch, IsUpdate, IsRead, Response, reply_of, reply_to}
+use Rattle.nr_trace.specs.Calls.{Invocation, call_of, request_of, operation_of, touch_of, IsCall, IsOrdered}
+use Rattle.nr_trace.specs.Calls.{IsTouch, IsUpdate, IsRead, Response, reply_of, reply_to}
 use Rattle.nr_trace.specs.Calls.{Answers}
 use Rattle.nr_trace.specs.Orders.{before, space_from, answer_in, recorded_order, known_by}
 use Rattle.nr_trace.specs.Faults.{HasFaultFrom, OpensTwice, IsWrongFrom, RestsOnMore, StandsAfter}
@@ -18,7 +19,7 @@ use Rattle.nr_trace.specs.declared.fault.Fault.{Fault}
 use Rattle.nr_trace.specs.declared.fault.Fault.TheVariants.{ThreadOpen, NoSuchCall, AnsweredTwice, NotAnUpdate, PlacedTwice, NotPlaced, PastLog, Early}
 use Rattle.nr_trace.specs.declared.fault.Fault.TheVariants.{WrongAnswer, PrefixPastLog, PrefixShort, MissingFrame, SharedFrame, ReservedBit, StrayFrame}
 use Rattle.nr_trace.specs.declared.fault.Fault.TheVariants.{Differs}
-use Rattle.nr_trace.proofs.LawsOfCalls.{answers_within, call_within, ordered_from_made, ordered_or_touch, reply_behind_call, reply_is_first, the_some}
+use Rattle.nr_trace.proofs.LawsOfCalls.{answers_within, call_within, ordered_from_request, ordered_or_touch, reply_behind_call, reply_is_first, the_some}
 use Rattle.nr_trace.proofs.LawsOfCalls.{answered_stands, not_both}
 use Rattle.nr_trace.proofs.LawsOfDumps.{clean_if_faultless}
 use Rattle.nr_trace.proofs.LawsOfOrder.{standing_is_member}
@@ -28,7 +29,7 @@ use Rattle.nr_joined.specs.Joined.{calls_behind, dump_behind, joined_traces}
 use Rattle.nr_joined.proofs.Lists.{split_at, of_mapped, before_left}
 use Rattle.nr_joined.proofs.Orders.{space_left}
 use Rattle.nr_joined.proofs.Parts.{call_left, call_right, reply_left, reply_from_right, reply_behind, HasEarlierCalls, answered_left}
-use Rattle.nr_joined.proofs.Parts.{answered_right}
+use Rattle.nr_joined.proofs.Parts.{answered_right, request_left, request_right}
 use Rattle.nr_joined.proofs.Parts.{answers_to_left, answers_to_right, reply_to_left, reply_to_right, is_call_from_left, is_call_from_right}
 use Rattle.nr_joined.proofs.Parts.{is_update_left, is_update_from_left, is_update_right, is_update_from_right, is_read_right}
 use Rattle.nr_joined.proofs.Places.{is_read_left, placed_left, placed_right, placed_in, PlacedRight, stood_left, stood_right, known_left, known_right}
@@ -310,9 +311,9 @@ module _ (start : Space) (first second : Recording) (same_layout : second.layout
       (right_behind : (call : ℕ) → HasFaultFrom space second (WrongAnswer call) → ⊥) where
     wrong_left : (call : ℕ) → call < length first.events → IsWrongFrom start whole call → ⊥
     wrong_left call l h =
-        let own_made : call_of first call ≡ Some h.made = sym (call_left first second call l) ∙ h.is_made in
+        let own_asks : request_of first call ≡ Some h.request = sym (request_left first second call l) ∙ h.asks in
         let own_reply : reply_to first call ≡ Some h.reply = sym (reply_to_left first second call l) ∙ h.is_reply in
-        let (stands, most) = answered_stands first call h.reply clean (ordered_from_made first call h.made own_made h.no_touch) own_reply in
+        let (stands, most) = answered_stands first call h.reply clean (ordered_from_request first call h.request own_asks) own_reply in
         let member = standing_is_member first h.reply.at call most stands in
         let same : space_from start whole (before call (recorded_order whole)) ≡ space_from start first (before call (recorded_order first)) =
         ap (λ (calls : List ℕ). space_from start whole calls)
@@ -320,12 +321,11 @@ module _ (start : Space) (first second : Recording) (same_layout : second.layout
         ∙ before_left call (recorded_order first) (calls_behind (length first.events) (recorded_order second)) member)
         ∙ space_left start first second (before call (recorded_order first)) (before_within first clean call) in
         right call (record {
-          made = h.made;
-          is_made = own_made;
-          no_touch = h.no_touch;
+          request = h.request;
+          asks = own_asks;
           reply = h.reply;
           is_reply = own_reply;
-          differs = λ e. h.differs (e ∙ ap (λ (s : Space). answer_in first.layout s h.made.request) (sym same));
+          differs = λ e. h.differs (e ∙ ap (λ (s : Space). answer_in first.layout s h.request) (sym same));
         })
 
     wrong_right : (call : ℕ) → IsWrongFrom start whole (length first.events + call) → ⊥
@@ -333,14 +333,13 @@ module _ (start : Space) (first second : Recording) (same_layout : second.layout
         let (own, own_is, same) = of_mapped behind (reply_to second call) h.reply (sym (reply_to_right first second call earlier) ∙ h.is_reply) in
         let answer : own.answer ≡ h.reply.answer = ap (λ (r : Response). r.answer) same in
         right_behind call (record {
-          made = h.made;
-          is_made = sym (call_right first second call) ∙ h.is_made;
-          no_touch = h.no_touch;
+          request = h.request;
+          asks = sym (request_right first second call) ∙ h.asks;
           reply = own;
           is_reply = own_is;
           differs = λ e. h.differs (sym answer ∙ e
-              ∙ ap (λ (layout : Layout). answer_in layout (space_from space second (before call (recorded_order second))) h.made.request) same_layout
-              ∙ ap (λ (s : Space). answer_in first.layout s h.made.request) (sym (space_before_right start first second same_layout clean call)));
+              ∙ ap (λ (layout : Layout). answer_in layout (space_from space second (before call (recorded_order second))) h.request) same_layout
+              ∙ ap (λ (s : Space). answer_in first.layout s h.request) (sym (space_before_right start first second same_layout clean call)));
         })
 
   -- ---- dumps

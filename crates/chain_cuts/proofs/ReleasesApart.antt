@@ -1,23 +1,19 @@
 -- A run that is cut in two has right releases just where the two have.
-use Rattle.std.proofs.Common.{◌≡◌, ℕ, ◌+◌, ◌<◌, ◌⊎◌, inl, inr, length, map, slice_get, Option, Some, None, option_and_then, option_map}
+use Rattle.std.proofs.Common.{◌≡◌, ℕ, ◌+◌, ◌<◌, ◌⊎◌, inl, inr, length, Option, Some, None, option_and_then, option_map}
 use Rattle.std.proofs.Common.{refl, ap, sym, ◌∙◌, subst, arith}
-use Rattle.std.proofs.lemmas.Option.{slice_get-map}
 use Rattle.vs_types.specs.Space.{Space}
 use Rattle.vs_types.specs.declared.answer.Answer.TheVariants.{Done}
-use Rattle.vs_types.proofs.Lists.{get_left, get_right}
 use Rattle.nr_trace.specs.Recording.{Recording}
-use Rattle.nr_trace.specs.Calls.{released_in, released_of, Response, reply_of}
+use Rattle.nr_trace.specs.Calls.{Invocation, released_in, released_of, Response, reply_of}
 use Rattle.nr_trace.specs.Laws.{HasCleanLog}
 use Rattle.nr_trace.specs.Orders.{space_from}
-use Rattle.nr_trace.specs.declared.event.Event.{Event}
-use Rattle.nr_trace.specs.declared.event.Event.TheVariants.{Reply}
 use Rattle.nr_trace.proofs.LawsOfCalls.{reply_below}
-use Rattle.nr_joined.specs.Joined.{event_behind, joined_traces}
+use Rattle.nr_joined.specs.Joined.{joined_traces}
 use Rattle.nr_joined.specs.Run.{Run, run_with, IsOrderly}
 use Rattle.nr_joined.proofs.Associated.{joined_associate}
 use Rattle.nr_joined.proofs.Lists.{split_at}
 use Rattle.nr_joined.proofs.Orderly.{clean_is_orderly, orderly_both}
-use Rattle.nr_joined.proofs.Parts.{reply_behind, reply_left, reply_right, reply_from_right}
+use Rattle.nr_joined.proofs.Parts.{call_left, call_right, reply_behind, reply_left, reply_right, reply_from_right}
 use Rattle.nr_touch.specs.Releases.{IsReachable, IsWrongRelease}
 use Rattle.nr_touch.specs.Touches.{IsRightTouch}
 use Rattle.nr_touch.specs.declared.releases.release.Release.{Release}
@@ -33,12 +29,6 @@ use Rattle.chain_cuts.proofs.TouchesApart.{behind, same_touch}
 
 -- ---- what is given away, and how it is answered
 
-released_behind : (events places : ℕ) (o : Option Event)
-    → option_and_then released_in (option_map (event_behind events places) o) ≡ option_and_then released_in o
-released_behind events places None = refl
-released_behind events places (Some (Reply call at answer)) = refl
-released_behind events places (Some event) = refl
-
 module _ (first second : Recording) (clean : HasCleanLog first) where
   abbrev whole : Recording
   whole = joined_traces first second
@@ -47,14 +37,10 @@ module _ (first second : Recording) (clean : HasCleanLog first) where
   shifted release = release_behind (length first.events) release
 
   released_left : (call : ℕ) → call < length first.events → released_of whole call ≡ released_of first call
-  released_left call l =
-      ap (option_and_then released_in) (get_left first.events (map (event_behind (length first.events) (length first.log)) second.events) call l)
+  released_left call l = ap (option_and_then (λ (made : Invocation). released_in made.asked)) (call_left first second call l)
 
   released_right : (call : ℕ) → released_of whole (length first.events + call) ≡ released_of second call
-  released_right call =
-      ap (option_and_then released_in) (get_right first.events (map (event_behind (length first.events) (length first.log)) second.events) call
-      ∙ slice_get-map (event_behind (length first.events) (length first.log)) second.events call)
-      ∙ released_behind (length first.events) (length first.log) (slice_get second.events call)
+  released_right call = ap (option_and_then (λ (made : Invocation). released_in made.asked)) (call_right first second call)
 
   lower : (index : ℕ) (reply : Response) → reply_of first index ≡ Some reply → reply.call < index
   lower = (clean_is_orderly first clean).earlier

@@ -66,9 +66,8 @@ module _ (trace : Recording) (some others : List Image) where
 
   same_wrong : (start : Space) (call : ℕ) → IsWrongFrom start with_some call → IsWrongFrom start with_others call
   same_wrong start call wrong = record {
-    made = wrong.made;
-    is_made = wrong.is_made;
-    no_touch = wrong.no_touch;
+    request = wrong.request;
+    asks = wrong.asks;
     reply = wrong.reply;
     is_reply = wrong.is_reply;
     differs = wrong.differs;

@@ -3,7 +3,7 @@
 use crate::cases::{Asks, CASES, Case, Item};
 use crate::scripts::{Tries, assert_alike, order_at_once, run_at_once, run_one_by_one};
 use nr_core::Step;
-use nr_trace::{Event, Trace, TraceLayout};
+use nr_trace::{Asked, Event, Trace, TraceLayout};
 use std::alloc::Global;
 use std::process::Abort;
 use vs_types::{Access, Depth, Mode, Op, Request, Rights, Size};
@@ -59,7 +59,7 @@ fn event_of(rt: &impl Abort, depth: Depth, item: Item) -> Event {
         Item::Call(replica, thread, asks) => Event::Call {
             replica,
             thread,
-            request: request_of(rt, depth, asks),
+            asked: Asked::Request(request_of(rt, depth, asks)),
         },
         Item::Reply(call, at, answer) => Event::Reply { call, at, answer },
     }

@@ -9,7 +9,7 @@ ghost use Rattle.nr_record.specs.Pen.{AreAllPens, new_pen};
 
 use nr_audit::judge_segment;
 use nr_record::{Clock, Pen, finish, finish_segment, pens};
-use nr_trace::{Event, Trace, TraceLayout, Version};
+use nr_trace::{Asked, Event, Trace, TraceLayout, Version};
 use std::alloc::Global;
 use std::process::Abort;
 use std::test::Fail;
@@ -128,7 +128,7 @@ fn call(thread: u8, request: Request) -> Event {
     Event::Call {
         replica: thread,
         thread: u16::from(thread),
-        request,
+        asked: Asked::Request(request),
     }
 }
 

@@ -1,8 +1,8 @@
 -- The answers of a trace, against the space after the calls that come before in the recorded order.
-use Rattle.std.proofs.Common.{◌≡◌, ℕ, zero, suc, ◌+◌, ◌<◌, ◌≤◌, Bool, true, false, List, [], ◌∷◌, length, take, get_or, Some, None, Option, refl, sym, ap}
+use Rattle.std.proofs.Common.{◌≡◌, ℕ, zero, suc, ◌+◌, ◌<◌, ◌≤◌, true, false, List, [], ◌∷◌, length, take, get_or, Some, None, Option, refl, sym, ap}
 use Rattle.std.proofs.Common.{subst, ◌∙◌}
 use Rattle.std.proofs.Common.{inl, inr, arith}
-use Rattle.std.specs.Prelude.{is_some, option_and_then, option_map, slice_get, Contains, IfSome, ◌==◌, nat_eq, if◌then◌else◌}
+use Rattle.std.specs.Prelude.{is_some, option_and_then, option_map, Contains, IfSome, ◌==◌, nat_eq}
 use Rattle.std.specs.List.{IsDistinct, AllByRecursion, position_or_len, cons_option}
 use Rattle.std.proofs.lemmas.Bool.{cases_lt, cond-true, cond-false, false≢true, eq-eqb, eqb-true, ne_eqb}
 use Rattle.std.proofs.lemmas.List.{length-take, length-take-le, take_more}
@@ -18,19 +18,17 @@ use Rattle.vs_types.specs.declared.answer.Answer.{Answer}
 use Rattle.vs_types.proofs.Afterwards.{after_all-append}
 use Rattle.vs_plain.specs.Plain.{BoundedSpace}
 use Rattle.nr_trace.specs.Recording.{Recording}
-use Rattle.nr_trace.specs.Calls.{Invocation, made_by, Response, call_of, operation_in, operation_of, reply_to}
+use Rattle.nr_trace.specs.Calls.{Response, operation_in, operation_of, request_of, reply_to}
 use Rattle.nr_trace.specs.Orders.{before, updates, operations, space_from, answer_in, recorded_order}
 use Rattle.nr_trace.specs.Faults.{Earlier, IsWrongFrom}
 use Rattle.nr_trace.specs.Laws.{HasCleanLog}
-use Rattle.nr_trace.specs.declared.event.Event.{Event}
-use Rattle.nr_trace.specs.declared.event.Event.TheVariants.{Call}
 use Rattle.nr_trace.specs.declared.fault.Fault.{Fault}
 use Rattle.nr_trace.specs.declared.fault.Fault.TheVariants.{WrongAnswer}
 use Rattle.nr_trace.proofs.LawsOfOrder.{order_distinct, updates_of_order}
 use Rattle.nr_trace.proofs.LawsOfFaults.{below_from_less, wrong_is_member}
 use Rattle.nr_audit.specs.inside.Search.{HasFaultOn, HasNoneFrom, IsFirstAmongFrom}
 use Rattle.nr_audit.specs.inside.Passes.{IsAnswerFault}
-use Rattle.nr_audit.specs.Served.{asked_by, Serves}
+use Rattle.nr_audit.specs.Served.{Serves}
 use Rattle.nr_audit.specs.Verdict.{space_of}
 use Rattle.nr_audit.specs.inside.Replies.{answer_to}
 
@@ -93,23 +91,14 @@ more start trace order k d within =
     ∙ ap (λ xs. after_all trace.layout.depth trace.layout.tables start xs) (filter_map-append (operation_of trace) (take k order) (get_or order k d ∷ []))
     ∙ after_all-append trace.layout.depth trace.layout.tables start (operations trace (take k order)) (operations trace (get_or order k d ∷ []))
 
--- what an event asks that is an update or a read
-abbrev asks_in : Option Event → Option Query
-asks_in event = option_and_then (λ (made : Invocation). if made.touch then None else Some made.request) (option_and_then made_by event)
-
-asked : (event : Option Event)
-    → option_and_then (λ (made : Invocation). operation_in made.request) (option_and_then made_by event) ≡ option_and_then operation_in (asks_in event)
-asked (Some (Call replica thread request)) = refl
-asked _ = refl
-
 -- what a request says of its call
-pub operation_by : (trace : Recording) (call : ℕ) (query : Option Query) → query ≡ asked_by trace call
+pub operation_by : (trace : Recording) (call : ℕ) (query : Option Query) → query ≡ request_of trace call
     → operation_of trace call ≡ option_and_then operation_in query
-operation_by trace call query e = asked (slice_get trace.events call) ∙ ap (λ q. option_and_then operation_in q) (sym e)
+operation_by trace call query e = ap (λ q. option_and_then operation_in q) (sym e)
 
 -- what is no call leaves the space
 pub space_stays : (start : Space) (trace : Recording) (order : List ℕ) (k d : ℕ) → k < length order
-    → asked_by trace (get_or order k d) ≡ None
+    → request_of trace (get_or order k d) ≡ None
     → space_from start trace (take k order) ≡ space_from start trace (take (k + 1) order)
 space_stays start trace order k d within none =
     sym (more start trace order k d within
@@ -118,7 +107,7 @@ space_stays start trace order k d within none =
 
 -- a call leaves the space that its request leaves
 pub space_visits : (start : Space) (trace : Recording) (order : List ℕ) (k d : ℕ) (query : Query) → k < length order
-    → Some query ≡ asked_by trace (get_or order k d)
+    → Some query ≡ request_of trace (get_or order k d)
     → served trace.layout (space_from start trace (take k order)) query ≡ space_from start trace (take (k + 1) order)
 unfolding served
 space_visits start trace order k d (Update action) within asks =
@@ -156,18 +145,6 @@ space_of_order start trace order clean listed =
 
 -- ---- answers
 
--- who asks it
-abbrev IsAsked : Option Invocation → Query → Type 0
-IsAsked o query = (made : Invocation) × (o ≡ Some made) × (made.touch ≡ false) × (made.request ≡ query)
-
-made_of : (o : Option Invocation) (query : Query) → Some query ≡ option_and_then (λ (made : Invocation). if made.touch then None else Some made.request) o
-    → IsAsked o query
-made_of None query e = absurd (cc)
-made_of (Some made) query e = by_touch made.touch refl e where
-  by_touch : (touch : Bool) → made.touch ≡ touch → Some query ≡ (if touch then None else Some made.request) → IsAsked (Some made) query
-  by_touch true is e = absurd (cc)
-  by_touch false is e = (made, refl, is, cc)
-
 -- the reply that gives an answer
 response_of : (o : Option Response) (answer : Answer) → Some answer ≡ option_map (λ (r : Response). r.answer) o
     → (response : Response) × (o ≡ Some response) × (response.answer ≡ answer)
@@ -184,47 +161,37 @@ module _ (start : Space) (trace : Recording) (order : List ℕ) (listed : order 
 
   -- an answer that is given and is not the space's is wrong
   pub wrong_here : (k : ℕ) (query : Query) (answer : Answer) (told : Option Answer) → k < length order
-      → Some query ≡ asked_by trace (get_or order k 0)
+      → Some query ≡ request_of trace (get_or order k 0)
       → answer ≡ answer_in trace.layout (space_from start trace (take k order)) query → told ≡ answer_to trace (get_or order k 0)
       → (IfSome told (λ t. t ≡ answer) → ⊥) → IsWrongFrom start trace (get_or order k 0)
   wrong_here k query answer None within asks gives is differs = absurd (differs tt)
   wrong_here k query answer (Some told) within asks gives is differs =
-      let made = made_of (call_of trace (get_or order k 0)) query asks in
       let reply = response_of (reply_to trace (get_or order k 0)) told is in
       record {
-        made = made.0;
-        is_made = made.1;
-        no_touch = made.2;
+        request = query;
+        asks = sym asks;
         reply = reply.0;
         is_reply = reply.1;
         differs = λ same. differs (sym reply.2 ∙ same
-            ∙ ap (λ xs. answer_in trace.layout (space_from start trace xs) made.0.request) (before_here k within)
-            ∙ ap (λ q. answer_in trace.layout (space_from start trace (take k order)) q) made.3 ∙ sym gives);
+            ∙ ap (λ xs. answer_in trace.layout (space_from start trace xs) query) (before_here k within) ∙ sym gives);
       }
 
   -- one that is given, if any is, and is the space's is not
   pub right_here : (k : ℕ) (query : Query) (answer : Answer) (told : Option Answer) → k < length order
-      → Some query ≡ asked_by trace (get_or order k 0)
+      → Some query ≡ request_of trace (get_or order k 0)
       → answer ≡ answer_in trace.layout (space_from start trace (take k order)) query → told ≡ answer_to trace (get_or order k 0)
       → IfSome told (λ t. t ≡ answer) → IsWrongFrom start trace (get_or order k 0) → ⊥
   right_here k query answer told within asks gives is agrees wrong =
-      let made = made_of (call_of trace (get_or order k 0)) query asks in
-      let one = made.1 in
-      let two = wrong.is_made in
-      let same : made.0 ≡ wrong.made = cc in
+      let two = wrong.asks in
+      let same : query ≡ wrong.request = cc in
       let here = is ∙ ap (λ o. option_map (λ (r : Response). r.answer) o) wrong.is_reply in
       wrong.differs (subst (λ o. IfSome o (λ t. t ≡ answer)) here agrees ∙ gives
-      ∙ ap (λ q. answer_in trace.layout (space_from start trace (take k order)) q) (sym made.3 ∙ ap (λ (m : Invocation). m.request) same)
-      ∙ ap (λ xs. answer_in trace.layout (space_from start trace xs) wrong.made.request) (sym (before_here k within)))
+      ∙ ap (λ q. answer_in trace.layout (space_from start trace (take k order)) q) same
+      ∙ ap (λ xs. answer_in trace.layout (space_from start trace xs) wrong.request) (sym (before_here k within)))
 
   -- what asks nothing, or is a touch, has no wrong answer
-  pub no_call_is_right : (call : ℕ) → asked_by trace call ≡ None → IsWrongFrom start trace call → ⊥
-  no_call_is_right call none wrong =
-      let asks : asked_by trace call ≡ (if wrong.made.touch then None else Some wrong.made.request) =
-      ap (λ o. option_and_then (λ (made : Invocation). if made.touch then None else Some made.request) o) wrong.is_made in
-      let some : asked_by trace call ≡ Some wrong.made.request =
-      asks ∙ ap (λ (touch : Bool). if touch then None else Some wrong.made.request) wrong.no_touch in
-      cc
+  pub no_call_is_right : (call : ℕ) → request_of trace call ≡ None → IsWrongFrom start trace call → ⊥
+  no_call_is_right call none wrong = let some = wrong.asks in cc
 
   -- the first wrong answer in the recorded order is the first of all
   pub first_wrong : (k : ℕ) → k < length order → ((j : ℕ) → j < k → IsWrongFrom start trace (get_or order j 0) → ⊥) → IsWrongFrom start trace (get_or order k 0)

@@ -9,9 +9,8 @@ use Rattle.nr_trace.specs.Calls.{Invocation, made_by, call_of, Response, reply_i
 use Rattle.nr_trace.specs.Faults.{IsReplyWith}
 use Rattle.nr_trace.specs.declared.event.Event.{Event}
 use Rattle.nr_trace.proofs.LawsOfCalls.{read_event, reply_that_answers}
-use Rattle.nr_trace.specs.declared.event.Event.TheVariants.{Call, Release, Reply, Touch}
+use Rattle.nr_trace.specs.declared.event.Event.TheVariants.{Call, Reply}
 use Rattle.vs_types.specs.Config.{Layout}
-use Rattle.vs_types.specs.declared.request.Query.TheVariants.{Access, Resolve}
 use Rattle.nr_trace.specs.declared.version.Version.{Version}
 use Rattle.vs_types.specs.declared.answer.Answer.{Answer}
 
@@ -61,30 +60,23 @@ read_gone (Some x) p told e f t = absurd (false≢true (sym t ∙ sym f ∙ ap i
 pub read_some : (o p : Option ℕ) (told : Bool) → p ≡ o → is_some p ≡ told → told ≡ true → o ≢ None
 read_some o p told e f t none = false≢true (sym (ap is_some (e ∙ none)) ∙ f ∙ t)
 
--- the call or touch that an event is, where it is read that this is its thread
+-- the call that an event is, where it is read that this is its thread
 made_on : (event : Event) (thread : ℕ) → Some thread ≡ option_map (λ (made : Invocation). made.thread) (made_by event)
     → (made : Invocation) × (made_by event ≡ Some made) × (made.thread ≡ thread)
-made_on (Call replica own request) thread e = (record { replica = replica; thread = own; request = request; touch = false }, refl, cc)
-made_on (Touch replica own address mode access) thread e =
-    (record { replica = replica; thread = own; request = Access address mode access; touch = true }, refl, cc)
-made_on (Release replica own size phys) thread e = (record { replica = replica; thread = own; request = Resolve 0; touch = true }, refl, cc)
+made_on (Call replica own asked) thread e = (record { replica = replica; thread = own; asked = asked }, refl, cc)
 made_on (Reply call at answer) thread e = absurd (cc)
 
 -- it is one of the layout
 thread_in_layout : (version : Version) (layout : Layout) (event : Event) (thread : ℕ)
     → Some thread ≡ option_map (λ (made : Invocation). made.thread) (made_by event)
     → IsEvent version layout event → thread < layout.threads
-thread_in_layout version layout (Call replica own request) thread e is = let same : thread ≡ own = cc in omega (arith, is.1)
-thread_in_layout version layout (Touch replica own address mode access) thread e is = let same : thread ≡ own = cc in omega (arith, is.1)
-thread_in_layout version layout (Release replica own size phys) thread e is = let same : thread ≡ own = cc in omega (arith, is.1)
+thread_in_layout version layout (Call replica own asked) thread e is = let same : thread ≡ own = cc in omega (arith, is.1)
 thread_in_layout version layout (Reply call at answer) thread e is = absurd (cc)
 
--- an event is a call, a touch, a release or a reply
+-- an event is a call or a reply
 pub no_event : (event : Event) (thread : Option ℕ) → ((call at : ℕ) (answer : Answer) → event ≢ Reply call at answer)
     → thread ≡ option_map (λ (made : Invocation). made.thread) (made_by event) → ((own : ℕ) → thread ≢ Some own) → ⊥
-no_event (Call replica own request) thread none told gone = gone own told
-no_event (Touch replica own address mode access) thread none told gone = gone own told
-no_event (Release replica own size phys) thread none told gone = gone own told
+no_event (Call replica own asked) thread none told gone = gone own told
 no_event (Reply call at answer) thread none told gone = none call at answer refl
 
 -- the event of an index is a call, a touch or a release on a thread

@@ -7,8 +7,8 @@ use Rattle.std.specs.Option.{option_map_or}
 use Rattle.std.proofs.lemmas.Bool.{cases_eq, cases_lt}
 use Rattle.std.proofs.lemmas.Option.{none-some, same_Some}
 use Rattle.nr_trace.specs.Recording.{Recording}
-use Rattle.vs_types.specs.declared.request.Query.{Query}
-use Rattle.nr_trace.specs.Calls.{Invocation, call_of, touch_of, Response, reply_in, reply_of}
+use Rattle.nr_trace.specs.declared.event.Asked.{Asked}
+use Rattle.nr_trace.specs.Calls.{Invocation, call_of, unordered_in, touch_of, Response, reply_in, reply_of}
 use Rattle.nr_trace.specs.Orders.{known_by}
 use Rattle.nr_trace.proofs.LawsOfCalls.{reply_in_event}
 use Rattle.nr_trace.proofs.LawsOfLists.{In, in_map, in_mapped}
@@ -140,12 +140,12 @@ known_is segment event needs are replica = both up down where
 -- ---- of a call
 
 -- the call of a touch
-pub made_of : (trace : Recording) (call : ℕ) (request : Query) → touch_of trace call ≡ Some request → (made : Invocation) × (call_of trace call ≡ Some made)
-made_of trace call request asks = by (call_of trace call) refl where
+pub made_of : (trace : Recording) (call : ℕ) (asked : Asked) → touch_of trace call ≡ Some asked → (made : Invocation) × (call_of trace call ≡ Some made)
+made_of trace call asked asks = by (call_of trace call) refl where
   by : (made : Option Invocation) → call_of trace call ≡ made → (own : Invocation) × (call_of trace call ≡ Some own)
   by None is =
-      absurd (none-some request (
-      sym (ap (option_and_then (λ (own : Invocation). if own.touch then Some own.request else None)) is) ∙ asks))
+      absurd (none-some asked (
+      sym (ap (option_and_then (λ (own : Invocation). unordered_in own.asked)) is) ∙ asks))
   by (Some made) is = (made, is)
 
 pub known_when_at : (segment : Recording) (call replica : ℕ) → option_map (λ (made : Invocation). made.replica) (call_of segment call) ≡ Some replica

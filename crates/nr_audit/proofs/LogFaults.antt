@@ -7,7 +7,7 @@ use Rattle.std.proofs.lemmas.Bool.{cases_lt, cases_eq, false≢true}
 use Rattle.std.proofs.lemmas.Option.{slice_get_past}
 use Rattle.vs_types.specs.Space.{no_pages}
 use Rattle.nr_trace.specs.Recording.{Recording}
-use Rattle.nr_trace.specs.Calls.{Invocation, made_by, operation_in, IsUpdate}
+use Rattle.nr_trace.specs.Calls.{Invocation, made_by, request_in, operation_in, IsUpdate}
 use Rattle.nr_trace.specs.Faults.{Earlier, HasPlaced}
 use Rattle.nr_trace.specs.declared.fault.Fault.{Fault}
 use Rattle.nr_trace.specs.declared.fault.Fault.TheVariants.{NotAnUpdate, PlacedTwice}
@@ -109,7 +109,7 @@ pub update_within : (trace : Recording) (call : ℕ) → IsUpdate trace call →
 update_within trace call update = elim (cases_lt call (length trace.events)) [
   | inl low ↦ low
   | inr past ↦ absurd (false≢true
-      (sym (ap is_some (ap (λ o. option_and_then (λ (made : Invocation). operation_in made.request) (option_and_then made_by o))
+      (sym (ap is_some (ap (λ o. option_and_then operation_in (option_and_then (λ (made : Invocation). request_in made.asked) (option_and_then made_by o)))
       (slice_get_past trace.events call past))) ∙ update))
 ]
 

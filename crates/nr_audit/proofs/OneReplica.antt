@@ -26,15 +26,7 @@ use Rattle.nr_audit.proofs.KnownEntries.{known_below, made_of}
 -- every call is made at replica 0
 asked_at : (version : Version) (layout : Layout) (event : Event) (made : Invocation) → layout.replicas ≡ 1 → IsEvent version layout event
     → made_by event ≡ Some made → made.replica ≡ 0
-asked_at version layout (events.Call replica thread request) made one is e =
-    let same : replica ≡ made.replica = ap (λ (m : Invocation). m.replica) (same_Some _ made e) in
-    let low = is.0 in
-    omega (arith, one, low, same)
-asked_at version layout (events.Touch replica thread address mode access) made one is e =
-    let same : replica ≡ made.replica = ap (λ (m : Invocation). m.replica) (same_Some _ made e) in
-    let low = is.0 in
-    omega (arith, one, low, same)
-asked_at version layout (events.Release replica thread size phys) made one is e =
+asked_at version layout (events.Call replica thread asked) made one is e =
     let same : replica ≡ made.replica = ap (λ (m : Invocation). m.replica) (same_Some _ made e) in
     let low = is.0 in
     omega (arith, one, low, same)

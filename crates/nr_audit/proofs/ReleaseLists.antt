@@ -1,7 +1,7 @@
 -- The releases of a segment, as a list, and what a search of them finds.
 use Rattle.std.proofs.Common.{◌≡◌, ℕ, ◌+◌, ◌<◌, ◌↔◌, inl, inr, Bool, true, false, List, [], ◌∷◌, ◌++◌, length, get_or, slice_get, Option, Some, None}
 use Rattle.std.proofs.Common.{option_and_then, option_map, IsTrue, IfSome, refl, sym, ap, ◌∙◌, subst, arith}
-use Rattle.std.specs.Prelude.{if◌then◌else◌, IfNone, IsSome}
+use Rattle.std.specs.Prelude.{IfNone, IsSome}
 use Rattle.std.specs.List.{AllPairs}
 use Rattle.std.proofs.lemmas.Bool.{cases_lt}
 use Rattle.std.proofs.lemmas.List.{length-append}
@@ -10,9 +10,10 @@ use Rattle.vs_types.specs.Space.{Space}
 use Rattle.vs_types.specs.declared.answer.Answer.{Answer}
 use Rattle.vs_types.specs.declared.answer.Answer.TheVariants.{Done}
 use Rattle.nr_trace.specs.Recording.{IsEvent, IsMemory, IsRecording, Recording}
-use Rattle.nr_trace.specs.Calls.{made_by, released_in, released_of, Answers, Invocation, IsTouch, Released, Response, reply_of}
+use Rattle.nr_trace.specs.Calls.{made_by, released_in, released_of, unordered_in, Answers, Invocation, IsTouch, Released, Response, reply_of}
 use Rattle.nr_trace.specs.declared.event.Event.{Event}
 use Rattle.nr_trace.specs.declared.event.Event.TheVariants as events
+use Rattle.nr_trace.specs.declared.event.Asked.TheVariants as askeds
 use Rattle.nr_trace.proofs.LawsOfCalls.{answers_from, reply_below, reply_that_answers}
 use Rattle.nr_joined.specs.Run.{Run}
 use Rattle.nr_touch.specs.Releases.{AreMemory, FindsReachable}
@@ -27,16 +28,16 @@ use Rattle.nr_audit.proofs.TouchLists.{pushed_cases, pushed_new, pushed_old}
 record IsGiving (event : Option Event) (memory : Released) : Type 0 where
   pub replica : ℕ
   pub thread : ℕ
-  pub is : event ≡ Some (events.Release replica thread memory.size memory.phys)
+  pub is : event ≡ Some (events.Call replica thread (askeds.Release memory.size memory.phys))
 
-giving : (event : Option Event) (memory : Released) → option_and_then released_in event ≡ Some memory → IsGiving event memory
-giving None memory e = absurd (none-some memory e)
-giving (Some (events.Call replica thread request)) memory e = absurd (none-some memory e)
-giving (Some (events.Touch replica thread address mode access)) memory e = absurd (none-some memory e)
-giving (Some (events.Reply call at answer)) memory e = absurd (none-some memory e)
-giving (Some (events.Release replica thread size phys)) memory e =
+abbrev given_in : Option Event → Option Released
+given_in event = option_and_then (λ (made : Invocation). released_in made.asked) (option_and_then made_by event)
+
+giving : (event : Option Event) (memory : Released) → given_in event ≡ Some memory → IsGiving event memory
+giving (Some (events.Call replica thread (askeds.Release size phys))) memory e =
     let same : record { size = size; phys = phys } ≡ memory = same_Some (record { size = size; phys = phys }) memory e in
-    record { replica = replica; thread = thread; is = ap (λ (m : Released). Some (events.Release replica thread m.size m.phys)) same }
+    record { replica = replica; thread = thread; is = ap (λ (m : Released). Some (events.Call replica thread (askeds.Release m.size m.phys))) same }
+giving _ memory e = absurd (none-some memory e)
 
 abbrev memory_in : Release → Released
 memory_in release = record { size = release.size; phys = release.phys }
@@ -47,10 +48,10 @@ gives segment release has = giving (slice_get segment.events release.made) (memo
 pub release_within : (segment : Recording) (release : Release) → HasRelease segment release → release.made < length segment.events
 release_within segment release has =
     let it = gives segment release has in
-    slice_get_within segment.events release.made (events.Release it.replica it.thread release.size release.phys) it.is
+    slice_get_within segment.events release.made (events.Call it.replica it.thread (askeds.Release release.size release.phys)) it.is
 
 abbrev of_event : Option Event → Type 0
-of_event event = IsSome (option_and_then (λ (made : Invocation). if made.touch then Some made.request else None) (option_and_then made_by event))
+of_event event = IsSome (option_and_then (λ (made : Invocation). unordered_in made.asked) (option_and_then made_by event))
 
 abbrev is_event : Recording → Event → Type 0
 is_event segment event = IsEvent segment.version segment.layout event
@@ -64,7 +65,7 @@ release_is_touch segment release has =
 pub memory_of : (segment : Recording) → IsRecording segment → (release : Release) → HasRelease segment release → IsMemory release.size release.phys
 memory_of segment in_range release has =
     let it = gives segment release has in
-    let event = events.Release it.replica it.thread release.size release.phys in
+    let event = events.Call it.replica it.thread (askeds.Release release.size release.phys) in
     let within = slice_get_within segment.events release.made event it.is in
     let fits = in_range.events release.made event within in
     (subst (is_event segment) (get_or_from_slice_get segment.events release.made event event it.is) fits).2
@@ -116,16 +117,12 @@ pub released_there : (segment : Recording) (made : ℕ) (done : Bool) (found : O
     → found ≡ release_by made done (slice_get segment.events made) → IsReleaseAt segment made found
 released_there segment made done found told is = by (slice_get segment.events made) refl where
   by : (event : Option Event) → slice_get segment.events made ≡ event → IsReleaseAt segment made found
-  by None e = none_there segment made found (ap (option_and_then released_in) e) (is ∙ ap (release_by made done) e)
-  by (Some (events.Call replica thread request)) e = none_there segment made found (ap (option_and_then released_in) e) (is ∙ ap (release_by made done) e)
-  by (Some (events.Touch replica thread address mode access)) e =
-      none_there segment made found (ap (option_and_then released_in) e) (is ∙ ap (release_by made done) e)
-  by (Some (events.Reply call at answer)) e = none_there segment made found (ap (option_and_then released_in) e) (is ∙ ap (release_by made done) e)
-  by (Some (events.Release replica thread size phys)) e =
+  by (Some (events.Call replica thread (askeds.Release size phys))) e =
       let release : Release = record { made = made; size = size; phys = phys; is_done = done } in
-      let has : HasRelease segment release = record { gives = ap (option_and_then released_in) e; done = told } in
+      let has : HasRelease segment release = record { gives = ap given_in e; done = told } in
       subst (λ (o : Option Release). IsReleaseAt segment made o) (sym (is ∙ ap (release_by made done) e))
       (has, refl, λ other also same. one_release segment other release also has same)
+  by _ e = none_there segment made found (ap given_in e) (is ∙ ap (release_by made done) e)
 
 -- ---- the list
 

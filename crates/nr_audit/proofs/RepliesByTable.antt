@@ -9,7 +9,7 @@ use Rattle.nr_trace.specs.Calls.{Response, reply_in, reply_of, reply_to}
 use Rattle.nr_trace.specs.declared.event.Event.{Event}
 use Rattle.std.proofs.lemmas.Bool.{eq-eqb, cond-true, false≢true}
 use Rattle.std.specs.Prelude.{option_map}
-use Rattle.nr_trace.specs.Calls.{Invocation, read_address, address_of, call_of, IsRead, IsUpdate}
+use Rattle.nr_trace.specs.Calls.{Invocation, request_in, read_address, address_of, call_of, IsRead, IsUpdate}
 use Rattle.nr_trace.proofs.LawsOfCalls.{not_both, reply_in_event, reply_that_answers}
 use Rattle.nr_audit.specs.inside.Tables.{IsReplyBelow}
 use Rattle.nr_audit.specs.inside.Replies.{position_of, entries_seen}
@@ -84,5 +84,5 @@ update_saw_nothing trace call update = seen_of_none (address_of trace call) (rep
 
 pub no_call_saw_nothing : (trace : Recording) (call : ℕ) → call_of trace call ≡ None → entries_seen trace call ≡ None
 no_call_saw_nothing trace call none = seen_of_none (address_of trace call) (reply_to trace call)
-    (λ read. false≢true (sym (ap (λ o. is_some (option_and_then (λ (made : Invocation). if made.touch then None else read_address made.request) o)) none)
+    (λ read. false≢true (sym (ap (λ o. is_some (option_and_then read_address (option_and_then (λ (made : Invocation). request_in made.asked) o))) none)
     ∙ read))

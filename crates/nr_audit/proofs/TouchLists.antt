@@ -11,12 +11,12 @@ use Rattle.std.proofs.lemmas.Option.{same_Some, slice_get_within, slice_get-get_
 use Rattle.vs_types.specs.Space.{Space}
 use Rattle.vs_types.specs.declared.access.Access.{Access}
 use Rattle.vs_types.specs.declared.access.Mode.{Mode}
-use Rattle.vs_types.specs.declared.request.Query.{Query}
-use Rattle.vs_types.specs.declared.request.Query.TheVariants as queries
 use Rattle.nr_trace.specs.Recording.{Recording}
-use Rattle.nr_trace.specs.Calls.{Invocation, made_by, operation_of, touch_of, Response, reply_in, reply_of, Answers}
+use Rattle.nr_trace.specs.Calls.{Invocation, made_by, unordered_in, operation_of, touch_of, Response, reply_in, reply_of, Answers}
 use Rattle.nr_trace.specs.declared.event.Event.{Event}
 use Rattle.nr_trace.specs.declared.event.Event.TheVariants as events
+use Rattle.nr_trace.specs.declared.event.Asked.{Asked}
+use Rattle.nr_trace.specs.declared.event.Asked.TheVariants as askeds
 use Rattle.nr_joined.specs.Run.{Run}
 use Rattle.nr_touch.specs.Stale.{FindsStale}
 use Rattle.nr_touch.specs.declared.touches.touch.Touch.{Touch}
@@ -26,13 +26,13 @@ use Rattle.nr_audit.specs.inside.Begun.{is_protect, touch_by, touch_between, Are
 use Rattle.nr_audit.specs.inside.Tables.{IsReplyBelow}
 use Rattle.nr_audit.proofs.CallsAndReplies.{answers_only}
 
-abbrev asked_in : Option Event → Option Query
-asked_in event = option_and_then (λ (made : Invocation). if made.touch then Some made.request else None) (option_and_then made_by event)
+abbrev asked_in : Option Event → Option Asked
+asked_in event = option_and_then (λ (made : Invocation). unordered_in made.asked) (option_and_then made_by event)
 
 -- an event that asks for a touch is that touch
-of_asked : (event : Option Event) (address : ℕ) (mode : Mode) (access : Access) → asked_in event ≡ Some (queries.Access address mode access)
-    → (replica : ℕ) × (thread : ℕ) × (event ≡ Some (events.Touch replica thread address mode access))
-of_asked (Some (events.Touch replica thread own_address own_mode own_access)) address mode access e = (replica, thread, cc)
+of_asked : (event : Option Event) (address : ℕ) (mode : Mode) (access : Access) → asked_in event ≡ Some (askeds.Touch address mode access)
+    → (replica : ℕ) × (thread : ℕ) × (event ≡ Some (events.Call replica thread (askeds.Touch address mode access)))
+of_asked (Some (events.Call replica thread (askeds.Touch own_address own_mode own_access))) address mode access e = (replica, thread, cc)
 of_asked _ address mode access e = cc
 
 of_replied : (event : Option Event) (reply : Response) → option_and_then reply_in event ≡ Some reply
@@ -49,7 +49,8 @@ has_between segment touch has =
     let replied = of_replied (slice_get segment.events touch.answered) has.reply has.is_reply in
     ap (λ known. touch_by touch.made touch.answered known (slice_get segment.events touch.made) (slice_get segment.events touch.answered)) (sym has.known)
     ∙ ap (λ event. touch_by touch.made touch.answered touch.known event (slice_get segment.events touch.answered)) asked.2
-    ∙ ap (λ event. touch_by touch.made touch.answered touch.known (Some (events.Touch asked.0 asked.1 touch.address touch.mode touch.access)) event) replied
+    ∙ ap (λ event. touch_by touch.made touch.answered touch.known
+    (Some (events.Call asked.0 asked.1 (askeds.Touch touch.address touch.mode touch.access))) event) replied
     ∙ ap (λ answer. Some (record touch { answer = answer })) has.answer
 
 -- what lies between two events is a touch of the segment, where the second answers the first
@@ -57,7 +58,7 @@ record Lies (segment : Recording) (made answered : ℕ) (touch : Touch) : Type 0
   pub made_so : touch.made ≡ made
   pub answered_so : touch.answered ≡ answered
   pub known_so : touch.known ≡ known_when segment made
-  pub asks : asked_in (slice_get segment.events made) ≡ Some (queries.Access touch.address touch.mode touch.access)
+  pub asks : asked_in (slice_get segment.events made) ≡ Some (askeds.Touch touch.address touch.mode touch.access)
   pub call : ℕ
   pub at : ℕ
   pub replies : option_and_then reply_in (slice_get segment.events answered) ≡ Some (record { call = call; at = at; answer = touch.answer })
@@ -65,7 +66,7 @@ record Lies (segment : Recording) (made answered : ℕ) (touch : Touch) : Type 0
 lies_by : (segment : Recording) (made answered : ℕ) (touch : Touch) (asked replied : Option Event) → slice_get segment.events made ≡ asked
     → slice_get segment.events answered ≡ replied → touch_by made answered (known_when segment made) asked replied ≡ Some touch
     → Lies segment made answered touch
-lies_by segment made answered touch (Some (events.Touch replica thread address mode access)) (Some (events.Reply call at answer)) a r e =
+lies_by segment made answered touch (Some (events.Call replica thread (askeds.Touch address mode access))) (Some (events.Reply call at answer)) a r e =
     let same : record { made = made; answered = answered; known = known_when segment made; address = address; mode = mode; access = access; answer = answer }
     ≡ touch = cc in
     subst (Lies segment made answered) same record {
@@ -85,7 +86,7 @@ between_has segment made answered touch e answers =
     let lies = lies_by segment made answered touch (slice_get segment.events made) (slice_get segment.events answered) refl refl e in
     let reply : Response = record { call = lies.call; at = lies.at; answer = touch.answer } in (
       record {
-        asks = subst (λ call. touch_of segment call ≡ Some (queries.Access touch.address touch.mode touch.access)) (sym lies.made_so) lies.asks;
+        asks = subst (λ call. touch_of segment call ≡ Some (askeds.Touch touch.address touch.mode touch.access)) (sym lies.made_so) lies.asks;
         reply = reply;
         is_reply = subst (λ index. reply_of segment index ≡ Some reply) (sym lies.answered_so) lies.replies;
         of_it = answers_only segment answered made reply lies.replies answers ∙ sym lies.made_so;
@@ -105,7 +106,7 @@ touch_answers segment touch has =
 pub touch_within : (segment : Recording) (touch : Touch) → HasTouch segment touch → touch.made < length segment.events
 touch_within segment touch has =
     let asked = of_asked (slice_get segment.events touch.made) touch.address touch.mode touch.access has.asks in
-    slice_get_within segment.events touch.made (events.Touch asked.0 asked.1 touch.address touch.mode touch.access) asked.2
+    slice_get_within segment.events touch.made (events.Call asked.0 asked.1 (askeds.Touch touch.address touch.mode touch.access)) asked.2
 
 pub answered_within : (segment : Recording) (touch : Touch) → HasTouch segment touch → touch.answered < length segment.events
 answered_within segment touch has =

@@ -1,17 +1,18 @@
 -- A trace is a first segment without a start and without touches.
 use Rattle.std.proofs.Common.{◌≡◌, ℕ, ◌≤◌, IsSome, Option, Some, None, refl, sym, ap, subst, arith}
-use Rattle.std.specs.Prelude.{IfSome, slice_get, option_and_then, if◌then◌else◌}
+use Rattle.std.specs.Prelude.{IfSome, slice_get, option_and_then}
 use Rattle.std.proofs.lemmas.Option.{get_or_from_slice_get, slice_get_within}
 use Rattle.vs_types.specs.Config.{Layout}
 use Rattle.vs_types.specs.Space.{no_pages}
 use Rattle.vs_walk.specs.Dump.{Image}
-use Rattle.nr_trace.specs.Calls.{made_by, Invocation, IsTouch}
+use Rattle.nr_trace.specs.Calls.{made_by, unordered_in, Invocation, IsTouch}
 use Rattle.nr_trace.specs.Faults.{HasFaultFrom, IsFirst}
 use Rattle.nr_trace.specs.Laws.{IsFaultless}
 use Rattle.nr_trace.specs.Recording.{start_frames, IsEvent, IsRecording, IsStart, Recording}
 use Rattle.nr_trace.specs.Versions.{most_start, IsVersionOf, KnowsTouch}
 use Rattle.nr_trace.specs.declared.event.Event.{Event}
 use Rattle.nr_trace.specs.declared.event.Event.TheVariants as events
+use Rattle.nr_trace.specs.declared.event.Asked.TheVariants as askeds
 use Rattle.nr_trace.specs.declared.fault.Fault.{Fault}
 use Rattle.nr_trace.specs.declared.fault.Fault.TheVariants.{StartMissing, StartShared, StartReserved, StartStray, StartBeyond, StartDiffers, Stale, Reachable}
 use Rattle.nr_trace.specs.declared.version.Form.TheVariants as forms
@@ -43,16 +44,15 @@ unknown versions.Segment of_form knows = of_form
 unknown _ of_form knows = knows
 
 no_touch_in : (version : Version) (layout : Layout) (event : Event) → IsVersionOf forms.Trace version → IsEvent version layout event
-    → IsSome (option_and_then (λ (made : Invocation). if made.touch then Some made.request else None) (made_by event)) → ⊥
-no_touch_in version layout (events.Touch replica thread address mode access) of_form is some = unknown version of_form is.3
-no_touch_in version layout (events.Release replica thread size phys) of_form is some = unknown version of_form is.3
-no_touch_in version layout (events.Call replica thread request) of_form is some = cc
+    → IsSome (option_and_then (λ (made : Invocation). unordered_in made.asked) (made_by event)) → ⊥
+no_touch_in version layout (events.Call replica thread (askeds.Request request)) of_form is some = cc
+no_touch_in version layout (events.Call replica thread asked) of_form is some = unknown version of_form is.3
 no_touch_in version layout (events.Reply call at answer) of_form is some = cc
 
 pub no_touch : (trace : Recording) → IsRecording trace → IsVersionOf forms.Trace trace.version → (call : ℕ) → IsTouch trace call → ⊥
 no_touch trace in_range of_form call = at (slice_get trace.events call) refl where
   at : (event : Option Event) → slice_get trace.events call ≡ event
-      → IsSome (option_and_then (λ (made : Invocation). if made.touch then Some made.request else None) (option_and_then made_by event)) → ⊥
+      → IsSome (option_and_then (λ (made : Invocation). unordered_in made.asked) (option_and_then made_by event)) → ⊥
   at None e some = cc
   at (Some event) e some = no_touch_in trace.version trace.layout event of_form
       (subst (IsEvent trace.version trace.layout) (get_or_from_slice_get trace.events call event event e)

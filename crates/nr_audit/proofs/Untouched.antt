@@ -1,14 +1,15 @@
 -- What is counted of a segment without touches.
 use Rattle.std.proofs.Common.{◌≡◌, ◌∙◌, ℕ, ◌+◌, false, [], length, slice_get, Option, Some, None, option_and_then, refl, sym, ap, subst, arith}
-use Rattle.std.specs.Prelude.{count_by, IsSome, if◌then◌else◌}
+use Rattle.std.specs.Prelude.{count_by, IsSome}
 use Rattle.std.specs.Option.{option_map_or}
 use Rattle.vs_types.specs.Space.{Space}
-use Rattle.vs_types.specs.declared.request.Query.{Query}
 use Rattle.nr_trace.specs.Recording.{Recording}
-use Rattle.nr_trace.specs.Calls.{made_by, Invocation}
+use Rattle.nr_trace.specs.Calls.{made_by, unordered_in, Invocation}
 use Rattle.nr_trace.specs.Orders.{below}
 use Rattle.nr_trace.specs.declared.event.Event.{Event}
 use Rattle.nr_trace.specs.declared.event.Event.TheVariants as events
+use Rattle.nr_trace.specs.declared.event.Asked.{Asked}
+use Rattle.nr_trace.specs.declared.event.Asked.TheVariants as askeds
 use Rattle.nr_joined.specs.Run.{Run}
 use Rattle.nr_touch.specs.Beside.{beside, is_beside, meets_update, touched, touched_in}
 use Rattle.nr_touch.specs.Excuses.{AreExcusedBy}
@@ -22,16 +23,14 @@ no_excuses before start segment = record {
   each = λ index touch excuse at had. absurd (let none : None ≡ Some touch = at in cc);
 }
 
-abbrev asked_in : Option Event → Option Query
-asked_in event = option_and_then (λ (made : Invocation). if made.touch then Some made.request else None) (option_and_then made_by event)
+abbrev asked_in : Option Event → Option Asked
+asked_in event = option_and_then (λ (made : Invocation). unordered_in made.asked) (option_and_then made_by event)
 
 -- an event that has an address is a touch
-not_touched : (event : Option Event) → (IsSome (asked_in event) → ⊥) → option_and_then touched_in event ≡ None
-not_touched None none = refl
-not_touched (Some (events.Call replica thread request)) none = refl
-not_touched (Some (events.Touch replica thread address mode access)) none = absurd (none refl)
-not_touched (Some (events.Release replica thread size phys)) none = refl
-not_touched (Some (events.Reply call at answer)) none = refl
+not_touched : (event : Option Event) → (IsSome (asked_in event) → ⊥)
+    → option_and_then (λ (made : Invocation). touched_in made.asked) (option_and_then made_by event) ≡ None
+not_touched (Some (events.Call replica thread (askeds.Touch address mode access))) none = absurd (none refl)
+not_touched _ none = refl
 
 module _ (segment : Recording) (none : HasSomeTouch segment → ⊥) where
   pub no_touches_of : AreTouchesOf segment []

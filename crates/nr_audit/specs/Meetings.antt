@@ -4,11 +4,11 @@ use Rattle.std.specs.List.{list_any}
 use Rattle.nr_trace.specs.Recording.{Recording}
 use Rattle.nr_trace.specs.Orders.{below}
 use Rattle.nr_touch.specs.Beside.{is_over}
-use Rattle.nr_audit.specs.Served.{asked_by}
+use Rattle.nr_trace.specs.Calls.{request_of}
 
 -- whether it is the number of an update or a read
 abbrev pub is_asked : Recording → ℕ → Bool
-is_asked trace call = is_some (asked_by trace call)
+is_asked trace call = is_some (request_of trace call)
 
 -- whether the first of two calls is made first, and is still open as the second is made
 abbrev pub is_open_at : Recording → ℕ → ℕ → Bool

@@ -1,17 +1,11 @@
--- What an update or a read of a trace asks, what that does to a plain space, and how it is answered.
-use Rattle.std.specs.Prelude.{◌≡◌, ℕ, Option, Some, None, option_and_then, if◌then◌else◌}
+-- What an update or a read does to a plain space, and how it is answered.
+use Rattle.std.specs.Prelude.{◌≡◌}
 use Rattle.vs_types.specs.Step.{step, look, allow}
 use Rattle.vs_types.specs.declared.answer.Answer.{Answer}
 use Rattle.vs_types.specs.declared.answer.Answer.TheVariants.{Done}
 use Rattle.vs_types.specs.declared.request.Query.{Query}
 use Rattle.vs_types.specs.declared.request.Query.TheVariants.{Update, Resolve, Access}
 use Rattle.vs_plain.specs.Plain.{BoundedSpace, IsPlainStep}
-use Rattle.nr_trace.specs.Recording.{Recording}
-use Rattle.nr_trace.specs.Calls.{call_of}
-
--- what an update or a read asks
-abbrev pub asked_by : Recording → ℕ → Option Query
-asked_by trace call = option_and_then (λ made. if made.touch then None else Some made.request) (call_of trace call)
 
 -- an update does its operation; a read is answered and changes nothing
 abbrev pub Serves : BoundedSpace → Query → Answer → BoundedSpace → Type 0

@@ -2,9 +2,9 @@
 use Rattle.std.specs.Prelude.{◌≡◌, ◌==◌, ℕ, if◌then◌else◌, map, max, take, fold, filter_map, Option, Some}
 use Rattle.std.specs.Option.{option_map_or}
 use Rattle.vs_types.specs.Space.{Space}
-use Rattle.vs_types.specs.declared.request.Query.TheVariants.{Access}
 use Rattle.nr_trace.specs.Recording.{Recording}
 use Rattle.nr_trace.specs.Calls.{call_of, touch_of, Response, reply_in, reply_of}
+use Rattle.nr_trace.specs.declared.event.Asked.TheVariants as askeds
 use Rattle.nr_trace.specs.Orders.{known_by}
 use Rattle.nr_joined.specs.Run.{Run}
 use Rattle.nr_touch.specs.Touches.{IsRightBehind}
@@ -26,7 +26,7 @@ known_when segment call = option_map_or (λ made. known_at segment made.replica 
 -- the segment has this touch: it asks so as the event at which it is made, and the event at which it is answered is its reply. Its replica was
 -- known to have applied so many entries when it was made
 pub record HasTouch (segment : Recording) (touch : Touch) : Type 0 where
-  pub asks : touch_of segment touch.made ≡ Some (Access touch.address touch.mode touch.access)
+  pub asks : touch_of segment touch.made ≡ Some (askeds.Touch touch.address touch.mode touch.access)
   pub reply : Response
   pub is_reply : reply_of segment touch.answered ≡ Some reply
   pub of_it : reply.call ≡ touch.made

@@ -14,14 +14,13 @@ use nr_trace::{Event, Fault, Recorded, Trace};
 use std::alloc::Global;
 use vs_types::Fail;
 
-/// The thread of the call, the touch or the release that an event is, or `None` where it is a reply.
+/// The thread of the call that an event is, or `None` where it is none. A touch and a release are calls here.
 pub(crate) fn thread_of(event: Event) -> Option<u16>
     ensures { result ≡ option_map (λ made. made.thread) (made_by event) }
 {
     match event {
-        Event::Call { thread, .. } | Event::Touch { thread, .. } | Event::Release { thread, .. } =>
-            Some(thread),
-        Event::Reply { .. } => None,
+        Event::Call { thread, .. } => Some(thread),
+        _ => None,
     }
 }
 

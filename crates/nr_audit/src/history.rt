@@ -97,7 +97,7 @@ impl<'a> History<'a> {
         ensures { result ≡ is_some (touch_of self.now call) }
     {
         match self.trace.events().get(call as usize) {
-            Some(event) => matches!(event.event(), Event::Touch { .. } | Event::Release { .. }),
+            Some(event) => event.event().is_unordered(),
             None => false,
         }
     }
@@ -108,10 +108,8 @@ impl<'a> History<'a> {
         ensures in_range { IfSome result (λ replica. replica < 4) }
     {
         match self.trace.events().get(call as usize)?.event() {
-            Event::Call { replica, .. }
-            | Event::Touch { replica, .. }
-            | Event::Release { replica, .. } => Some(replica),
-            Event::Reply { .. } => None,
+            Event::Call { replica, .. } => Some(replica),
+            _ => None,
         }
     }
 

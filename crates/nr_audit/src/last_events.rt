@@ -66,8 +66,8 @@ pub(crate) fn call_at(trace: &Trace, event: u32) -> u32
     ensures { result ≡ call_at trace.now event }
 {
     match trace.events()[event as usize].event() {
-        Event::Call { .. } | Event::Touch { .. } | Event::Release { .. } => event,
         Event::Reply { call, .. } => call,
+        _ => event,
     }
 }
 
@@ -78,8 +78,8 @@ pub(crate) fn answer_at(trace: &Trace, event: u32) -> Option<Answer>
     ensures { result ≡ option_map (λ reply. reply.answer) (reply_of trace.now event) }
 {
     match trace.events()[event as usize].event() {
-        Event::Call { .. } | Event::Touch { .. } | Event::Release { .. } => None,
         Event::Reply { answer, .. } => Some(answer),
+        _ => None,
     }
 }
 
@@ -90,7 +90,7 @@ pub(crate) fn position_at(trace: &Trace, event: u32) -> Option<u32>
     ensures { result ≡ option_map (λ reply. reply.at) (reply_of trace.now event) }
 {
     match trace.events()[event as usize].event() {
-        Event::Call { .. } | Event::Touch { .. } | Event::Release { .. } => None,
         Event::Reply { at, .. } => Some(at),
+        _ => None,
     }
 }

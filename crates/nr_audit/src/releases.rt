@@ -10,7 +10,7 @@ use crate::answers::agrees;
 use crate::history::History;
 use crate::last_events::answer_at;
 use nr_touch::Release;
-use nr_trace::{Event, Trace};
+use nr_trace::{Asked, Event, Trace};
 use std::alloc::Global;
 use vs_types::{Answer, Memory};
 
@@ -30,7 +30,10 @@ fn release_at(segment: &Trace, made: u32, is_done: bool) -> Option<Release>
     ensures { result ≡ release_by made is_done (slice_get segment.now.events made) }
 {
     match segment.events().get(made as usize)?.event() {
-        Event::Release { size, phys, .. } => Some(Release {
+        Event::Call {
+            asked: Asked::Release(size, phys),
+            ..
+        } => Some(Release {
             made,
             size,
             phys,

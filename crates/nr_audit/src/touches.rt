@@ -23,7 +23,7 @@ use crate::met::{Met, met_if, untouched};
 use crate::needs::{entries_known, raise_need};
 use crate::releases::{release_number, releases_of};
 use nr_touch::{Followed, Tail, Touch, follow};
-use nr_trace::{Event, Trace};
+use nr_trace::{Asked, Event, Trace};
 use std::alloc::Global;
 use vs_plain::PlainSpace;
 use vs_plain::laws::pages_are_a_space;
@@ -34,10 +34,10 @@ fn has_touches(segment: &Trace) -> bool
     ensures { IsTrue result ↔ HasSomeTouch segment.now }
 {
     !is_trace(segment)
-        && segment.events().iter().any(|event| matches!(
-            event.event(),
-            Event::Touch { .. } | Event::Release { .. }
-        ))
+        && segment
+            .events()
+            .iter()
+            .any(|event| event.event().is_unordered())
 }
 
 /// Whether the call that the log has at the place is answered, if there is one.
@@ -160,10 +160,8 @@ fn touch_at(segment: &Trace, made: u32, answered: u32, known: u64) -> Option<Tou
     let reply = segment.events().get(answered as usize)?.event();
     match (asked, reply) {
         (
-            Event::Touch {
-                address,
-                mode,
-                access,
+            Event::Call {
+                asked: Asked::Touch(address, mode, access),
                 ..
             },
             Event::Reply { answer, .. },

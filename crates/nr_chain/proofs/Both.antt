@@ -8,15 +8,18 @@ use Rattle.vs_types.specs.Space.{Space}
 use Rattle.vs_walk.specs.Walk.{TranslatesAs}
 use Rattle.vs_walk.specs.Dump.{Image}
 use Rattle.nr_trace.specs.Recording.{IsThere, Recording}
-use Rattle.nr_trace.specs.Calls.{Invocation, call_of, operation_of, IsOrdered, IsUpdate, IsRead, Response, reply_to, IsAnswered, Precedes}
+use Rattle.vs_types.specs.declared.request.Query.{Query}
+use Rattle.nr_trace.specs.Calls.{Invocation, call_of, request_of, operation_of, IsOrdered, IsUpdate, IsRead, Response, reply_to, IsAnswered, Precedes}
 use Rattle.nr_trace.specs.Orders.{before, updates, space_from, answer_in, HasItsCalls, KeepsPrecedence, HasAnswersFrom, FitsFrom}
-use Rattle.nr_trace.proofs.LawsOfLists.{In, Contains-from_in, in_from_Contains, in_left, in_right, in_either, in_filter, in_filtered, distinct_append, in_mapped}
-use Rattle.nr_trace.proofs.LawsOfCalls.{call_within, is_some_from, ordered_from_made, ordered_is_call}
+use Rattle.nr_trace.proofs.LawsOfLists.{In, Contains-from_in, in_from_Contains, in_left, in_right}
+use Rattle.nr_trace.proofs.LawsOfLists.{in_either, in_filter, in_filtered, distinct_append, in_mapped}
+use Rattle.nr_trace.proofs.LawsOfCalls.{call_within, is_some_from, ordered_from_request, ordered_is_call}
 use Rattle.nr_joined.specs.Joined.{dump_behind, calls_behind, joined_traces}
 use Rattle.nr_chain.specs.Joined.{Segment, both}
 use Rattle.nr_chain.specs.Run.{IsRightFrom, HasFittingDumpsFrom, space_behind}
 use Rattle.nr_joined.proofs.Lists.{not_in_behind, in_behind, behind_distinct, before_left, before_right, before_behind, before_in, split_at, of_mapped}
-use Rattle.nr_joined.proofs.Parts.{call_left, call_right, reply_behind, reply_to_left, reply_to_right, HasEarlierCalls, answered_left, answered_right}
+use Rattle.nr_joined.proofs.Parts.{call_left, call_right, request_left, request_right, reply_behind}
+use Rattle.nr_joined.proofs.Parts.{reply_to_left, reply_to_right, HasEarlierCalls, answered_left, answered_right}
 use Rattle.nr_joined.proofs.Places.{is_ordered_left, is_ordered_from_left, is_ordered_right, is_ordered_from_right, is_read_left}
 use Rattle.nr_joined.proofs.Parts.{is_call_left, is_call_right, is_update_left, is_update_from_left, is_update_right}
 use Rattle.nr_joined.proofs.Parts.{is_update_from_right, is_read_right, is_answered_left, is_answered_from_left, is_answered_right, is_answered_from_right}
@@ -203,42 +206,42 @@ module _ (start : Space) (first second : Segment) (same_layout : second.trace.la
   -- ---- answers
 
   module _ (behind : HasAnswersFrom (space_behind start first) second.trace second.order) where
-    abbrev Right : ℕ → Response → Invocation → Type 0
-    Right call reply made = reply.answer ≡ answer_in first.trace.layout (space_from start whole (before call order)) made.request
+    abbrev Right : ℕ → Response → Query → Type 0
+    Right call reply request = reply.answer ≡ answer_in first.trace.layout (space_from start whole (before call order)) request
 
-    right_left : (call : ℕ) (made : Invocation) (reply : Response) → call < length first.trace.events → call_of whole call ≡ Some made
-        → made.touch ≡ false → reply_to whole call ≡ Some reply → Right call reply made
-    right_left call made reply l is_made no_touch is_reply =
-        let own_made : call_of first.trace call ≡ Some made = sym (call_left first.trace second.trace call l) ∙ is_made in
+    right_left : (call : ℕ) (request : Query) (reply : Response) → call < length first.trace.events → request_of whole call ≡ Some request
+        → reply_to whole call ≡ Some reply → Right call reply request
+    right_left call request reply l asks is_reply =
+        let own_asks : request_of first.trace call ≡ Some request = sym (request_left first.trace second.trace call l) ∙ asks in
         let own_reply : reply_to first.trace call ≡ Some reply = sym (reply_to_left first.trace second.trace call l) ∙ is_reply in
-        let i = in_from_Contains call first.order (is_before.members.answered call (ordered_from_made first.trace call made own_made no_touch)
+        let i = in_from_Contains call first.order (is_before.members.answered call (ordered_from_request first.trace call request own_asks)
         (is_some_from (reply_to first.trace call) reply own_reply)) in
-        is_before.answers call made reply own_made no_touch own_reply
-        ∙ ap (λ (space : Space). answer_in first.trace.layout space made.request)
+        is_before.answers call request reply own_asks own_reply
+        ∙ ap (λ (space : Space). answer_in first.trace.layout space request)
         (sym (ap (λ (calls : List ℕ). space_from start whole calls) (before_first_member call i)
         ∙ space_left start first.trace second.trace (before call first.order) (λ other j. of_first other (before_in other call first.order j))))
 
-    right_right : (k : ℕ) (made : Invocation) (reply : Response) → call_of whole (length first.trace.events + k) ≡ Some made
-        → made.touch ≡ false → reply_to whole (length first.trace.events + k) ≡ Some reply → Right (length first.trace.events + k) reply made
-    right_right k made reply is_made no_touch is_reply =
-        let own_made : call_of second.trace k ≡ Some made = sym (call_right first.trace second.trace k) ∙ is_made in
+    right_right : (k : ℕ) (request : Query) (reply : Response) → request_of whole (length first.trace.events + k) ≡ Some request
+        → reply_to whole (length first.trace.events + k) ≡ Some reply → Right (length first.trace.events + k) reply request
+    right_right k request reply asks is_reply =
+        let own_asks : request_of second.trace k ≡ Some request = sym (request_right first.trace second.trace k) ∙ asks in
         let (own, own_reply, same) = of_mapped (reply_behind (length first.trace.events) (length first.trace.log)) (reply_to second.trace k) reply
         (sym (reply_to_right first.trace second.trace k earlier) ∙ is_reply) in
         let answer : own.answer ≡ reply.answer = ap (λ (r : Response). r.answer) same in
-        sym answer ∙ behind k made own own_made no_touch own_reply
-        ∙ ap (λ (layout : Layout). answer_in layout (space_from (space_behind start first) second.trace (before k second.order)) made.request) same_layout
-        ∙ ap (λ (space : Space). answer_in first.trace.layout (space_from space second.trace (before k second.order)) made.request) logged_space
-        ∙ ap (λ (space : Space). answer_in first.trace.layout space made.request)
+        sym answer ∙ behind k request own own_asks own_reply
+        ∙ ap (λ (layout : Layout). answer_in layout (space_from (space_behind start first) second.trace (before k second.order)) request) same_layout
+        ∙ ap (λ (space : Space). answer_in first.trace.layout (space_from space second.trace (before k second.order)) request) logged_space
+        ∙ ap (λ (space : Space). answer_in first.trace.layout space request)
         (sym (ap (λ (calls : List ℕ). space_from start whole calls) (before_second_member k)
         ∙ space_both start first.trace second.trace first.order (before k second.order) same_layout of_first))
 
     answers_both : HasAnswersFrom start whole order
-    answers_both call made reply is_made no_touch is_reply = by_side (split_at (length first.trace.events) call) where
-      by_side : (call < length first.trace.events) ⊎ ((k : ℕ) × (call ≡ length first.trace.events + k)) → Right call reply made
-      by_side (inl l) = right_left call made reply l is_made no_touch is_reply
+    answers_both call request reply asks is_reply = by_side (split_at (length first.trace.events) call) where
+      by_side : (call < length first.trace.events) ⊎ ((k : ℕ) × (call ≡ length first.trace.events + k)) → Right call reply request
+      by_side (inl l) = right_left call request reply l asks is_reply
       by_side (inr (k, e)) =
-          subst (λ (c : ℕ). Right c reply made) (sym e)
-          (right_right k made reply (subst (λ (c : ℕ). call_of whole c ≡ Some made) e is_made) no_touch
+          subst (λ (c : ℕ). Right c reply request) (sym e)
+          (right_right k request reply (subst (λ (c : ℕ). request_of whole c ≡ Some request) e asks)
           (subst (λ (c : ℕ). reply_to whole c ≡ Some reply) e is_reply))
 
   -- ---- the log

@@ -3,13 +3,14 @@ use Rattle.std.specs.Prelude.{[], ◌∷◌}
 use Rattle.vs_types.specs.declared.answer.Answer.TheVariants.{Done}
 use Rattle.nr_trace.specs.Examples.{map_it, resolve_it, looks_mapped, dump_of_page, map_then_resolve}
 use Rattle.nr_trace.specs.declared.event.Event.TheVariants.{Call, Reply}
+use Rattle.nr_trace.specs.declared.event.Asked.TheVariants.{Request}
 use Rattle.nr_chain.specs.Joined.{Segment}
 use Rattle.vs_walk.specs.Dump.{Image}
 
 -- one thread maps a page, and no dump is taken
 abbrev pub maps_it : Segment
 maps_it = record {
-  trace = record map_then_resolve { events = Call 0 0 map_it ∷ Reply 0 0 Done ∷ []; dumps = [] };
+  trace = record map_then_resolve { events = Call 0 0 (Request map_it) ∷ Reply 0 0 Done ∷ []; dumps = [] };
   order = 0 ∷ [];
 }
 
@@ -19,13 +20,13 @@ dump_of_none_more = record { applied = 0; root = dump_of_page.root; frames = dum
 
 abbrev pub resolves_it : Segment
 resolves_it = record {
-  trace = record map_then_resolve { log = []; events = Call 0 0 resolve_it ∷ Reply 0 0 looks_mapped ∷ []; dumps = dump_of_none_more ∷ [] };
+  trace = record map_then_resolve { log = []; events = Call 0 0 (Request resolve_it) ∷ Reply 0 0 looks_mapped ∷ []; dumps = dump_of_none_more ∷ [] };
   order = 0 ∷ [];
 }
 
 -- its call has no reply, and it makes another
 abbrev pub maps_without_a_reply : Segment
 maps_without_a_reply = record {
-  trace = record map_then_resolve { events = Call 0 0 map_it ∷ []; dumps = [] };
+  trace = record map_then_resolve { events = Call 0 0 (Request map_it) ∷ []; dumps = [] };
   order = 0 ∷ [];
 }

@@ -9,6 +9,7 @@ use Rattle.vs_types.specs.declared.request.Query.{Query}
 use Rattle.vs_types.specs.declared.request.Query.TheVariants.{Update}
 use Rattle.nr_trace.specs.Orders.{answer_in}
 use Rattle.nr_trace.specs.declared.event.Event.TheVariants as events
+use Rattle.nr_trace.specs.declared.event.Asked.TheVariants as askeds
 use Rattle.nr_core.specs.State.{State, Thread, Replica, tail, home, has_applied_all, with_thread, with_replica}
 use Rattle.nr_core.specs.declared.stage.Answered.{Answered}
 use Rattle.nr_core.specs.declared.stage.Collected.{Collected}
@@ -39,7 +40,7 @@ abbrev pub with_call : State → ℕ → Thread → List Query → Stage → Opt
 with_call state t thread (request ∷ left) Idle =
     let call = length state.events in
     Some (record (with_thread state t (record thread { script = left; stage = Called call request }))
-    { events = state.events ++ events.Call (home state t) t request ∷ [] })
+    { events = state.events ++ events.Call (home state t) t (askeds.Request request) ∷ [] })
 with_call state t thread script stage = None
 
 -- Call: if no call is open and the script has a request left, it is recorded

@@ -1,17 +1,15 @@
 -- The replies to the updates of the log, and to a touch.
-use Rattle.std.proofs.Common.{◌≡◌, ◌↔◌, ℕ, ◌<◌, ◌≤◌, ◌⊎◌, ◌^◌, min, inl, inr, Bool, true, false, List, Option, Some, None, length, get_or, slice_get, refl, sym}
+use Rattle.std.proofs.Common.{◌≡◌, ◌↔◌, ℕ, ◌<◌, ◌≤◌, ◌⊎◌, ◌^◌, min, inl, inr, true, false, List, Option, Some, None, length, get_or, slice_get, refl, sym}
 use Rattle.std.proofs.Common.{ap, subst, ◌∙◌, arith}
-use Rattle.std.specs.Prelude.{IsTrue, IsSome, nat_lt, option_and_then, if◌then◌else◌}
+use Rattle.std.specs.Prelude.{IsTrue, IsSome, nat_lt, option_and_then}
 use Rattle.std.proofs.lemmas.Bool.{cases_lt, cases_order}
 use Rattle.std.proofs.lemmas.Bool.Decides.{nat_tests}
-use Rattle.std.proofs.lemmas.Option.{same_Some, slice_get-get_or, slice_get_within}
-use Rattle.vs_types.specs.declared.access.Access as accesses
-use Rattle.vs_types.specs.declared.access.Mode.{Mode}
-use Rattle.vs_types.specs.declared.request.Query.{Query}
-use Rattle.vs_types.specs.declared.request.Query.TheVariants.{Access}
+use Rattle.std.proofs.lemmas.Option.{none-some, same_Some, slice_get-get_or, slice_get_within}
 use Rattle.nr_trace.specs.Recording.{Recording}
-use Rattle.nr_trace.specs.Calls.{Answers, Invocation, IsCall, call_of, made_by, touch_of}
+use Rattle.nr_trace.specs.Calls.{Answers, Invocation, IsCall, call_of, made_by, touch_of, unordered_in}
 use Rattle.nr_trace.specs.declared.event.Event.{Event}
+use Rattle.nr_trace.specs.declared.event.Asked.{Asked}
+use Rattle.nr_trace.specs.declared.event.Asked.TheVariants as askeds
 use Rattle.nr_trace.specs.Laws.{HasCleanLog}
 use Rattle.nr_trace.proofs.LawsOfCalls.{answers_from, reply_that_answers}
 use Rattle.nr_touch.specs.Touches.{IsAnsweredBefore}
@@ -19,7 +17,7 @@ use Rattle.nr_touch.specs.declared.touches.touch.Touch.{Touch}
 use Rattle.nr_touch.specs.Replies.{AreReplies}
 use Rattle.nr_audit.specs.Touches.{HasTouch}
 use Rattle.nr_audit.proofs.TouchLists.{touch_answers}
-use Rattle.nr_explain.specs.Facts.{IsCallOf, IsReplyOf, asked_address, response}
+use Rattle.nr_explain.specs.Facts.{IsCallOf, IsReplyOf, response}
 use Rattle.nr_explain.specs.declared.trace.evidence.RecordedCall.{RecordedCall}
 use Rattle.nr_explain.specs.declared.trace.evidence.RecordedReply.{RecordedReply}
 
@@ -78,24 +76,26 @@ of_touch segment call reply touch clean is names has made =
 
 pub touch_is_call : (segment : Recording) (touch : Touch) → HasTouch segment touch → IsCall segment touch.made
 touch_is_call segment touch has = of (call_of segment touch.made) has.asks where
-  of : (o : Option Invocation) → option_and_then (λ made. if made.touch then Some made.request else None) o
-      ≡ Some (Access touch.address touch.mode touch.access)
+  of : (o : Option Invocation) → option_and_then (λ (made : Invocation). unordered_in made.asked) o
+      ≡ Some (askeds.Touch touch.address touch.mode touch.access)
       → IsSome o
   of None e = absurd cc
   of (Some made) e = refl
 
-asks_of : (b : Bool) (request : Query) (address : ℕ) (mode : Mode) (access : accesses.Access)
-    → (if b then Some request else None) ≡ Some (Access address mode access)
-    → asked_address request ≡ address
-asks_of true request address mode access e = ap asked_address (same_Some request (Access address mode access) e)
-asks_of false request address mode access e = absurd cc
+-- the address of a touch
+abbrev pub touched : Asked → ℕ
+touched (askeds.Touch address mode access) = address
+touched asked = 0
+
+asks_itself : (asked own : Asked) → unordered_in asked ≡ Some own → asked ≡ own
+asks_itself (askeds.Request request) own e = absurd (none-some own e)
+asks_itself (askeds.Touch address mode access) own e = same_Some (askeds.Touch address mode access) own e
+asks_itself (askeds.Release size phys) own e = same_Some (askeds.Release size phys) own e
 
 pub touch_asks : (segment : Recording) (call : RecordedCall) (touch : Touch) → IsCallOf segment call → HasTouch segment touch → touch.made ≡ call.event
-    → asked_address call.request ≡ touch.address
+    → call.asked ≡ askeds.Touch touch.address touch.mode touch.access
 touch_asks segment call touch is has made =
-    let asks : touch_of segment call.event ≡ Some (Access touch.address touch.mode touch.access) = ap (touch_of segment) (sym made) ∙ has.asks in
-    asks_of call.touch call.request touch.address touch.mode touch.access
-    (sym (ap (option_and_then (λ (m : Invocation). if m.touch then Some m.request else None)) is.0) ∙ asks)
+    asks_itself call.asked _ (sym (ap (option_and_then (λ (m : Invocation). unordered_in m.asked)) is) ∙ ap (touch_of segment) (sym made) ∙ has.asks)
 
 pub none_open : (segment : Recording) (call : ℕ) (touch : Touch) → HasTouch segment touch → touch.made ≡ call
     → ((index : ℕ) → Answers segment index call → ⊥) → ⊥

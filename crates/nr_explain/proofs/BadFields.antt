@@ -16,7 +16,8 @@ use Rattle.nr_trace.proofs.UnitsOfBytes.{bytes_from}
 use Rattle.nr_trace.specs.Recording.{IsEvent}
 use Rattle.nr_trace.specs.Spelling.{event}
 use Rattle.nr_trace.specs.declared.event.Event.{Event}
-use Rattle.nr_trace.specs.declared.event.Event.TheVariants.{Call, Release, Reply, Touch}
+use Rattle.nr_trace.specs.declared.event.Event.TheVariants.{Call, Reply}
+use Rattle.nr_trace.specs.declared.event.Asked.TheVariants as askeds
 use Rattle.nr_trace.specs.declared.fields.Counts.{Counts}
 use Rattle.nr_trace.specs.declared.version.Version.{Version}
 use Rattle.nr_trace.specs.declared.version.Version.TheVariants.{Segment}
@@ -129,7 +130,7 @@ call_there version layout header unit said long fits tag h =
           (subst (λ (kind : ℕ). rights_fault kind (number_8 unit 6) ≡ None) is.1 rights)
           (subst (λ (kind : ℕ). address_fault layout.depth kind (size_of (number_8 unit 5)) (number_64 unit 8) ≡ None) is.1 at)
           (subst (λ (kind : ℕ). physical_fault kind (size_of (number_8 unit 5)) (number_64 unit 16) ≡ None) is.1 physical) in (
-            Touch (number_8 unit 1) (number_16 unit 2) found.0 found.1 found.2,
+            Call (number_8 unit 1) (number_16 unit 2) (askeds.Touch found.0 found.1 found.2),
             (there, here, found.3, knows_touch version (number_8 unit 4) few is.1),
             call_spelled unit long fits tag none ∙ ap (call_bytes (number_8 unit 1) (number_16 unit 2)) found.4,
           ))
@@ -140,7 +141,7 @@ call_there version layout header unit said long fits tag h =
             (subst (λ (kind : ℕ). rights_fault kind (number_8 unit 6) ≡ None) is.1 rights)
             (subst (λ (kind : ℕ). address_fault layout.depth kind (size_of (number_8 unit 5)) (number_64 unit 8) ≡ None) is.1 at)
             (subst (λ (kind : ℕ). physical_fault kind (size_of (number_8 unit 5)) (number_64 unit 16) ≡ None) is.1 physical) in (
-              Release (number_8 unit 1) (number_16 unit 2) found.0 found.1,
+              Call (number_8 unit 1) (number_16 unit 2) (askeds.Release found.0 found.1),
               (there, here, found.2, knows_release version (number_8 unit 4) few is.1),
               call_spelled unit long fits tag none ∙ ap (call_bytes (number_8 unit 1) (number_16 unit 2)) found.3,
             ))
@@ -148,7 +149,7 @@ call_there version layout header unit said long fits tag h =
             let most : number_8 unit 4 < 5 = below_five version (number_8 unit 4) few not.1 other.1 in
             let found = request_there version layout.depth (number_8 unit 4) (number_8 unit 5) (number_8 unit 6) (number_64 unit 8) (number_64 unit 16) few
             most size rights at physical in (
-              Call (number_8 unit 1) (number_16 unit 2) found.0,
+              Call (number_8 unit 1) (number_16 unit 2) (askeds.Request found.0),
               (there, here, found.1, found.2),
               call_spelled unit long fits tag none ∙ ap (call_bytes (number_8 unit 1) (number_16 unit 2)) found.3,
             ))

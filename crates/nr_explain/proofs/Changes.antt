@@ -1,14 +1,13 @@
 -- How an address looks, one place more.
 use Rattle.std.proofs.Common.{◌≡◌, ◌≢◌, ℕ, ◌+◌, ◌<◌, ◌≤◌, inl, inr, Option, Some, None, length, get_or, slice_get, sym, ap, ◌∙◌, arith}
-use Rattle.std.specs.Prelude.{option_and_then, if◌then◌else◌}
+use Rattle.std.specs.Prelude.{option_and_then}
 use Rattle.std.proofs.lemmas.Option.{get_or_from_slice_get}
 use Rattle.std.proofs.lemmas.Bool.{cases_lt}
 use Rattle.nr_trace.specs.Recording.{Recording}
 use Rattle.vs_types.specs.Space.{Space}
 use Rattle.vs_types.specs.Step.{look}
-use Rattle.nr_trace.specs.Calls.{call_of}
+use Rattle.nr_trace.specs.Calls.{call_of, request_in, request_of}
 use Rattle.nr_trace.proofs.LawsOfCalls.{some_or_none}
-use Rattle.nr_audit.specs.Served.{asked_by}
 use Rattle.nr_audit.proofs.AnswerFaults.{space_stays}
 use Rattle.nr_explain.specs.inside.Searches.{HasCallAt}
 use Rattle.nr_explain.specs.Facts.{IsCallOf, IsLastChangeFrom, LooksSameFrom, looks_from}
@@ -51,6 +50,6 @@ change_has_call start trace address place within differs call is = elim (some_or
   | inl made ↦ made
   | inr none ↦ absurd (differs (ap (λ (s : Space). look s address) (space_stays start trace trace.log place 0 within (asked none))))
 ] where
-  asked : call_of trace call ≡ None → asked_by trace (get_or trace.log place 0) ≡ None
-  asked none = ap (asked_by trace) (get_or_from_slice_get trace.log place call 0 is)
-      ∙ ap (option_and_then (λ made. if made.touch then None else Some made.request)) none
+  asked : call_of trace call ≡ None → request_of trace (get_or trace.log place 0) ≡ None
+  asked none = ap (request_of trace) (get_or_from_slice_get trace.log place call 0 is)
+      ∙ ap (option_and_then (λ made. request_in made.asked)) none

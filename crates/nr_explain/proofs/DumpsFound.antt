@@ -24,7 +24,7 @@ use Rattle.nr_audit.specs.inside.Search.{HasFaultOn, HasNoneFrom, IsFirstAmongFr
 use Rattle.nr_audit.proofs.DumpFaults.{none_absent, first_past_log, first_short, none_of_replica, first_of_replica}
 use Rattle.nr_audit.proofs.NeededEntries.{needs_at_start, needs_stay, no_reply_at, needs_after_reply}
 use Rattle.nr_explain.specs.Dumps.{replica_of}
-use Rattle.nr_explain.specs.Facts.{response}
+use Rattle.nr_explain.specs.Facts.{invocation, response}
 use Rattle.nr_explain.specs.inside.Searches.{IsFoundOfDump, IsResting, RestsNowhere}
 use Rattle.nr_explain.specs.declared.trace.evidence.ShortPrefix.{ShortPrefix}
 
@@ -122,8 +122,8 @@ module _ (trace : Recording) (replica : ℕ) (dump : Image) (is : slice_get trac
         let most : known_by trace reply ≤ get_or needs replica 0 = are.most replica found.reply.event reply (record {
           below = slice_get_within trace.events found.reply.event event.0 event.1;
           is_reply = rests.reply;
-          made = record { replica = found.call.replica; thread = found.call.thread; request = found.call.request; touch = found.call.touch };
-          is_made = ap (call_of trace) rests.names ∙ rests.call.0;
+          made = invocation found.call;
+          is_made = ap (call_of trace) rests.names ∙ rests.call;
           here = rests.here ∙ rests.replica_is;
         }) in
         let more = rests.more in

@@ -14,6 +14,7 @@ use Rattle.nr_trace.specs.declared.fault.Fault.TheVariants.{PrefixPastLog, Threa
 use Rattle.nr_trace.proofs.LawsOfCalls.{behind_its_call, update_from_not_not}
 use Rattle.nr_trace.proofs.LawsOfFaults.{less_from_below}
 use Rattle.nr_explain.specs.Dumps.{IsFirstOfItsDump, replica_of}
+use Rattle.nr_explain.specs.Facts.{invocation}
 use Rattle.nr_explain.specs.inside.Searches.{IsIdle, IsLastCall, IsOpenBelow}
 use Rattle.nr_explain.specs.declared.trace.evidence.RecordedCall.{RecordedCall}
 
@@ -42,8 +43,8 @@ last_is_open trace index thread last first own is = by_order (cases_order first.
   by_order (inl e) = subst (λ call. IsOpenBelow trace call index) e opens.not_answered
   by_order (inr (inl low)) = absurd (first.none_earlier (ThreadOpen last.event)
       (record {
-        made = record { replica = last.replica; thread = last.thread; request = last.request; touch = last.touch };
-        is_made = is.0.0;
+        made = invocation last;
+        is_made = is.0;
         earlier = opens.earlier;
         earlier_made = opens.earlier_made;
         is_earlier = low;

@@ -7,7 +7,6 @@ use Rattle.nr_trace.specs.declared.fault.Fault.{Fault}
 use Rattle.nr_touch.specs.Looks.{IsLookLeft}
 use Rattle.nr_touch.specs.Tails.{GoesOn}
 use Rattle.nr_audit.specs.Start.{first_space}
-use Rattle.nr_explain.specs.Facts.{asked_address}
 use Rattle.nr_explain.specs.Progress.{ChainState, Seen, began_with, counts_of, layout_in, run_in, space_in, sums_in, IsSeen, IsSeenOf}
 use Rattle.nr_explain.specs.ChainFacts.{is_mapped}
 use Rattle.nr_explain.specs.ChainEvidence.{found_page, AreEarlier, IsReachBehind, IsShown, LingersAs, LingersBehind, ShowsEarlier}
@@ -107,7 +106,7 @@ reach_alike came seen start segment call (Reached reply reach) is goes_on left =
 earlier_alike : (came : Option ChainState) (seen : Option Seen) (start : Space) (segment : Recording) (shown : SegmentEvidence) → IsSeenOf came seen
     → GoesOn (run_in came) segment start → ShowsLeft seen start segment shown → ShowsEarlier (run_in came) start segment shown
 earlier_alike came seen start segment (evidence.Stale stale) is goes_on left =
-    earlier_of came seen (asked_address stale.call.request) stale.first (found_page stale.lag) stale.earlier.items is left
+    λ address mode access asks. earlier_of came seen address stale.first (found_page stale.lag) stale.earlier.items is (left address mode access asks)
 earlier_alike came seen start segment (evidence.Reachable wrong) is goes_on left = reach_alike came seen start segment wrong.call wrong.why is goes_on left
 earlier_alike came seen start segment shown is goes_on left = tt
 

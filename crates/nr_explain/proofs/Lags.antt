@@ -22,7 +22,7 @@ use Rattle.nr_explain.specs.declared.trace.evidence.RecordedCall.{RecordedCall}
 -- how many entries the replica of a recorded call was known to have applied
 known_of : (segment : Recording) (call : RecordedCall) → IsCallOf segment call → known_when segment call.event ≡ known_at segment call.replica call.event
 known_of segment call is =
-    ap (λ (o : Option Invocation). option_map_or (λ (made : Invocation). known_at segment made.replica call.event) o 0) is.0
+    ap (λ (o : Option Invocation). option_map_or (λ (made : Invocation). known_at segment made.replica call.event) o 0) is
 
 -- a touch of these addresses and events
 pub record IsAskedSo (segment : Recording) (of_it : ℕ) (call : RecordedCall) (by : ℕ) (touch : Touch) : Type 0 where

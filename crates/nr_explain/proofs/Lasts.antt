@@ -4,19 +4,15 @@ use Rattle.std.proofs.lemmas.Bool.{cases_lt}
 use Rattle.std.proofs.lemmas.Option.{same_Some, none-some}
 use Rattle.nr_trace.specs.Recording.{Recording}
 use Rattle.nr_trace.specs.Calls.{Invocation, call_of}
-use Rattle.nr_explain.specs.Facts.{IsCallOf}
+use Rattle.nr_explain.specs.Facts.{IsCallOf, invocation}
 use Rattle.nr_explain.specs.inside.Searches.{IsIdle, IsLastCall, IsMadeBy}
 use Rattle.nr_explain.specs.declared.trace.evidence.RecordedCall.{RecordedCall}
-
--- who makes a recorded call
-abbrev pub made_in : RecordedCall → Invocation
-made_in call = record { replica = call.replica; thread = call.thread; request = call.request; touch = call.touch }
 
 -- it is made by the thread that it names
 pub thread_told : (trace : Recording) (index : ℕ) (call : RecordedCall) → IsCallOf trace call → call.event ≡ index
     → (made : Invocation) → call_of trace index ≡ Some made → made.thread ≡ call.thread
 thread_told trace index call is at made e =
-    let same = same_Some made (made_in call) (sym e ∙ ap (call_of trace) (sym at) ∙ is.0) in
+    let same = same_Some made (invocation call) (sym e ∙ ap (call_of trace) (sym at) ∙ is) in
     ap (λ (m : Invocation). m.thread) same
 
 idle_more : (trace : Recording) (thread first end : ℕ) → IsIdle trace thread first end → (IsMadeBy trace thread end → ⊥)

@@ -15,7 +15,7 @@ use Rattle.nr_explain.specs.ChainFacts.{LeadsInto}
 use Rattle.nr_explain.specs.Facts.{looks_from}
 use Rattle.nr_explain.specs.inside.Reaches.{FindsLeadingBelow, FindsLook}
 use Rattle.nr_explain.specs.declared.chain.evidence.Moment.{Moment}
-use Rattle.nr_explain.specs.declared.trace.evidence.Given.{Given}
+use Rattle.nr_explain.specs.declared.chain.evidence.Given.{Given}
 
 -- another look than that of a page leads nowhere
 pub leads_not : (given : Given) (look : Answer) → ((phys : ℕ) (size : Size) (rights : Rights) → look ≡ Mapped phys size rights → ⊥) → LeadsInto given look → ⊥

@@ -1,16 +1,15 @@
 -- The updates that a stale touch should have seen, that were open then, and that were made later.
 use Rattle.std.proofs.Common.{◌≡◌, ℕ, ◌+◌, ◌-◌, ◌<◌, ◌≤◌, inl, inr, Bool, Option, Some, None, length, get_or, slice_get, sym, ap, subst, ◌∙◌, arith}
-use Rattle.std.specs.Prelude.{option_and_then, if◌then◌else◌, IfSome, IsSome}
+use Rattle.std.specs.Prelude.{option_and_then, IfSome, IsSome}
 use Rattle.std.proofs.lemmas.Bool.{cases_lt}
 use Rattle.std.proofs.lemmas.Option.{get_or_from_slice_get, same_Some}
 use Rattle.vs_types.specs.Space.{Space, page_at}
 use Rattle.vs_types.specs.declared.answer.Answer.{Answer}
 use Rattle.vs_types.specs.declared.request.Query.{Query}
 use Rattle.nr_trace.specs.Recording.{Recording}
-use Rattle.nr_trace.specs.Calls.{Answers, call_of}
+use Rattle.nr_trace.specs.Calls.{Answers, call_of, request_in, request_of}
 use Rattle.nr_trace.proofs.LawsOfCalls.{some_or_none}
 use Rattle.nr_touch.specs.Touches.{ChangesLook}
-use Rattle.nr_audit.specs.Served.{asked_by}
 use Rattle.nr_audit.proofs.AnswerFaults.{space_stays}
 use Rattle.nr_explain.specs.ChainEvidence.{IsLater, IsMissed, IsOpenBefore}
 use Rattle.nr_explain.specs.ChainFacts.{EndsFinding, IsOpenEnd}
@@ -32,9 +31,9 @@ look_has_call start segment address place within differs call is = elim (some_or
   | inl made ↦ made
   | inr none ↦ absurd (differs (ap (λ (s : Space). page_at s address) (space_stays start segment segment.log place 0 within (asked none))))
 ] where
-  asked : call_of segment call ≡ None → asked_by segment (get_or segment.log place 0) ≡ None
-  asked none = ap (asked_by segment) (get_or_from_slice_get segment.log place call 0 is)
-      ∙ ap (option_and_then (λ made. if made.touch then None else Some made.request)) none
+  asked : call_of segment call ≡ None → request_of segment (get_or segment.log place 0) ≡ None
+  asked none = ap (request_of segment) (get_or_from_slice_get segment.log place call 0 is)
+      ∙ ap (option_and_then (λ made. request_in made.asked)) none
 
 module _ (start : Space) (segment : Recording) (address made : ℕ) (with_page : Bool) (first : ℕ)
     (reached : HasReached start segment address made with_page first) where

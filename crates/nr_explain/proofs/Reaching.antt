@@ -2,7 +2,7 @@
 use Rattle.std.proofs.Common.{◌≡◌, ◌↔◌, ℕ, ◌+◌, ◌-◌, ◌<◌, ◌≤◌, ◌⊎◌, inl, inr, Bool, true, false, cond, List, length, take, Option, Some, None, refl, sym, ap}
 use Rattle.std.proofs.Common.{subst}
 use Rattle.std.proofs.Common.{◌∙◌, arith}
-use Rattle.std.specs.Prelude.{option_and_then, slice_get, IfSome, IsSome}
+use Rattle.std.specs.Prelude.{option_and_then, IfSome, IsSome}
 use Rattle.std.proofs.lemmas.Bool.{false≢true}
 use Rattle.std.proofs.lemmas.Option.{none-some, same_Some}
 use Rattle.vs_types.specs.Page.{bytes_of}
@@ -14,9 +14,9 @@ use Rattle.vs_types.specs.declared.access.Mode.{Mode}
 use Rattle.vs_types.specs.declared.answer.Answer.TheVariants.{Allowed, Done, Fault}
 use Rattle.vs_types.specs.declared.page.Page.{Page}
 use Rattle.nr_trace.specs.Recording.{Recording}
-use Rattle.nr_trace.specs.Calls.{IsCall, Released, Response, made_by, released_in, released_of, reply_of}
-use Rattle.nr_trace.specs.declared.event.Event.{Event}
-use Rattle.nr_trace.specs.declared.event.Event.TheVariants.{Release}
+use Rattle.nr_trace.specs.Calls.{Invocation, IsCall, Released, Response, call_of, released_in, released_of, reply_of}
+use Rattle.nr_trace.specs.declared.event.Asked.{Asked}
+use Rattle.nr_trace.specs.declared.event.Asked.TheVariants as askeds
 use Rattle.nr_trace.specs.Laws.{HasCleanLog}
 use Rattle.nr_trace.specs.Orders.{space_from}
 use Rattle.nr_joined.specs.Joined.{joined_traces}
@@ -34,7 +34,7 @@ use Rattle.nr_audit.specs.Releases.{HasRelease, IsDoneOrOpen}
 use Rattle.nr_audit.proofs.ReleasesBehind.{found_in_time}
 use Rattle.nr_explain.specs.ChainEvidence.{release_at, IsReach, IsWrongSo}
 use Rattle.nr_explain.specs.ChainFacts.{EndsFinding, IsIn, LeadsInto}
-use Rattle.nr_explain.specs.Facts.{IsFirstReplyTo, released, response}
+use Rattle.nr_explain.specs.Facts.{IsCallOf, IsFirstReplyTo, released, response}
 use Rattle.nr_explain.specs.Progress.{ChainState, Seen, run_in, IsSeen, IsSeenOf}
 use Rattle.nr_explain.specs.inside.Firsts.{IsLeastSeen, IsReleaseToShow, ShowsReachLeft}
 use Rattle.nr_explain.specs.inside.Reaches.{FindsBefore, FindsReach, FindsWithin, IsReachBefore}
@@ -46,7 +46,7 @@ use Rattle.nr_explain.specs.declared.chain.progress.Progress.{Progress}
 use Rattle.nr_explain.specs.declared.chain.windows.Window.{Window}
 use Rattle.nr_explain.specs.declared.chain.evidence.WhyWrong.{WhyWrong}
 use Rattle.nr_explain.specs.declared.chain.evidence.WhyWrong.TheVariants.{Otherwise, Reached}
-use Rattle.nr_explain.specs.declared.trace.evidence.Given.{Given}
+use Rattle.nr_explain.specs.declared.chain.evidence.Given.{Given}
 use Rattle.nr_explain.specs.declared.trace.evidence.RecordedCall.{RecordedCall}
 use Rattle.nr_explain.specs.declared.trace.evidence.RecordedReply.{RecordedReply}
 use Rattle.nr_explain.proofs.Answering.{one_answer, answers_of}
@@ -181,11 +181,23 @@ module _ (changes : List Left) (start : Space) (segment : Recording) (event : �
 
 -- a release is a call
 pub release_is_call : (segment : Recording) (release : releases.Release) → HasRelease segment release → IsCall segment release.made
-release_is_call segment release has = by (slice_get segment.events release.made) has.gives where
-  by : (o : Option Event) → option_and_then released_in o ≡ Some (record { size = release.size; phys = release.phys }) → IsSome (option_and_then made_by o)
+release_is_call segment release has = by (call_of segment release.made) has.gives where
+  by : (o : Option Invocation) → option_and_then (λ (made : Invocation). released_in made.asked) o ≡ Some (record { size = release.size; phys = release.phys })
+      → IsSome o
   by None e = absurd (none-some _ e)
-  by (Some (Release replica thread size phys)) e = refl
-  by (Some event) e = absurd (none-some _ e)
+  by (Some made) e = refl
+
+gives_itself : (asked : Asked) (memory : Released) → released_in asked ≡ Some memory → asked ≡ askeds.Release memory.size memory.phys
+gives_itself (askeds.Request request) memory e = absurd (none-some memory e)
+gives_itself (askeds.Touch address mode access) memory e = absurd (none-some memory e)
+gives_itself (askeds.Release size phys) memory e =
+    ap (λ (m : Released). askeds.Release m.size m.phys) (same_Some (record { size = size; phys = phys }) memory e)
+
+pub release_asks : (segment : Recording) (call : RecordedCall) (release : releases.Release) → IsCallOf segment call → HasRelease segment release
+    → release.made ≡ call.event → call.asked ≡ askeds.Release release.size release.phys
+release_asks segment call release is has made =
+    gives_itself call.asked (record { size = release.size; phys = release.phys })
+    (sym (ap (option_and_then (λ (m : Invocation). released_in m.asked)) is) ∙ ap (released_of segment) (sym made) ∙ has.gives)
 
 -- no reply says otherwise than Done
 pub done_or_open : (segment : Recording) (call : ℕ) (reply : Option RecordedReply) → HasCleanLog segment → IsFirstReplyTo segment call reply
@@ -217,7 +229,8 @@ is_reachable seen start segment call given show gives done = by show.wrong where
 
 -- why it is wrong
 pub wrong_so : (seen : Option Seen) (start : Space) (segment : Recording) (index : ℕ) (call : RecordedCall) (given : Given) (why : WhyWrong)
-    → call.event ≡ index → call.gives ≡ Some given → IsWhyOf seen start segment index given why → IsWrongSo start segment call why
+    → call.event ≡ index → call.asked ≡ askeds.Release given.size given.phys → IsWhyOf seen start segment index given why
+    → IsWrongSo start segment call why
 wrong_so seen start segment index call given (Otherwise reply) at gives (first, other) =
     (subst (λ (n : ℕ). IsFirstReplyTo segment n (Some reply)) (sym at) first, other)
 wrong_so seen start segment index call given (Reached reply reach) at gives (first, done, found) = (
@@ -229,12 +242,14 @@ wrong_so seen start segment index call given (Reached reply reach) at gives (fir
 )
 
 pub left_so : (seen : Option Seen) (start : Space) (segment : Recording) (index : ℕ) (call : RecordedCall) (given : Given) (why : WhyWrong)
-    → call.event ≡ index → call.gives ≡ Some given → IsWhyOf seen start segment index given why → ShowsReachLeft seen start segment call why
+    → call.event ≡ index → call.asked ≡ askeds.Release given.size given.phys → IsWhyOf seen start segment index given why
+    → ShowsReachLeft seen start segment call why
 left_so seen start segment index call given (Otherwise reply) at gives of_it = tt
 left_so seen start segment index call given (Reached reply reach) at gives (first, done, found) = (
   found.of_it.left,
   λ other same. subst (λ (n : ℕ). IsLeastSeen seen start segment n other reach.address) (sym at)
-      (subst (λ (g : Given). IsLeastSeen seen start segment index g reach.address) (same_Some given other (sym gives ∙ same)) found.least),
+      (subst (λ (m : Released). IsLeastSeen seen start segment index (record { size = m.size; phys = m.phys }) reach.address)
+      (same_Some (released given) (released other) (ap released_in (sym gives ∙ same))) found.least),
 )
 
 -- ---- what is kept of a run

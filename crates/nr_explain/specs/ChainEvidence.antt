@@ -5,11 +5,14 @@ use Rattle.vs_types.specs.Depth.{levels, IsCanonical}
 use Rattle.vs_types.specs.Page.{bytes_of}
 use Rattle.vs_types.specs.Space.{Space}
 use Rattle.vs_types.specs.Step.{look, look_in_page}
+use Rattle.vs_types.specs.declared.access.Access.{Access}
+use Rattle.vs_types.specs.declared.access.Mode.{Mode}
 use Rattle.vs_types.specs.declared.answer.Answer.{Answer}
 use Rattle.vs_types.specs.declared.answer.Answer.TheVariants.{Done}
 use Rattle.vs_types.specs.declared.depth.Depth.{Depth}
 use Rattle.vs_types.specs.declared.page.Page.{Page}
 use Rattle.vs_types.specs.declared.page.TheConstants.Page.{PHYS_END}
+use Rattle.vs_types.specs.declared.request.Query.TheVariants as queries
 use Rattle.vs_walk.specs.Differences.{IsStray}
 use Rattle.vs_walk.specs.Dump.{Image}
 use Rattle.vs_walk.specs.Traversal.{found_in}
@@ -17,6 +20,7 @@ use Rattle.vs_walk.specs.Walk.{walk, as_walk}
 use Rattle.nr_trace.specs.Recording.{Recording}
 use Rattle.nr_trace.specs.Faults.{HasDump}
 use Rattle.nr_trace.specs.Orders.{before}
+use Rattle.nr_trace.specs.declared.event.Asked.TheVariants as askeds
 use Rattle.nr_trace.specs.declared.fault.Fault.{Fault}
 use Rattle.nr_trace.specs.declared.fault.Fault.TheVariants as faults
 use Rattle.nr_joined.specs.Run.{Run}
@@ -27,7 +31,7 @@ use Rattle.nr_touch.specs.declared.releases.release.Release.{Release}
 use Rattle.nr_touch.specs.declared.touches.touch.Touch.{Touch}
 use Rattle.nr_audit.specs.Touches.{HasTouch}
 use Rattle.nr_explain.specs.Evidence.{IsDifferenceFrom, IsEvidence, IsMissingTable, IsOtherAnswerFrom, IsReservedEntry, IsSharedTable}
-use Rattle.nr_explain.specs.Facts.{IsCallOf, IsFirstReplyTo, IsReplyOf, asked_address, entries_read, looks_from}
+use Rattle.nr_explain.specs.Facts.{IsCallOf, IsFirstReplyTo, IsReplyOf, entries_read, looks_from}
 use Rattle.nr_explain.specs.ChainFacts.{is_mapped, EndsFinding, IsChangedAt, IsLagOf, IsOpenEnd, IsOrigin, IsTakenFrom, LeadsInto}
 use Rattle.nr_explain.specs.declared.trace.evidence.Owner.TheVariants as owners
 use Rattle.nr_explain.specs.declared.chain.evidence.Lag.{Lag}
@@ -41,7 +45,7 @@ use Rattle.nr_explain.specs.declared.chain.evidence.Reach.{Reach}
 use Rattle.nr_explain.specs.declared.chain.evidence.WhyWrong.{WhyWrong}
 use Rattle.nr_explain.specs.declared.chain.evidence.WhyWrong.TheVariants.{Otherwise, Reached}
 use Rattle.nr_explain.specs.declared.chain.evidence.WrongRelease.{WrongRelease}
-use Rattle.nr_explain.specs.declared.trace.evidence.Given.{Given}
+use Rattle.nr_explain.specs.declared.chain.evidence.Given.{Given}
 use Rattle.nr_explain.specs.declared.trace.evidence.PlacedUpdate.{PlacedUpdate}
 use Rattle.nr_explain.specs.declared.trace.evidence.RecordedCall.{RecordedCall}
 use Rattle.nr_explain.specs.declared.trace.nearby.Stretch.{Stretch}
@@ -129,6 +133,10 @@ IsLater start segment address answered last behind (Some update) =
 -- numbers of entries it would be right
 pub record IsStaleTouch (start : Space) (segment : Recording) (stale : StaleTouch) : Type 0 where
   pub call : IsCallOf segment stale.call
+  pub address : ℕ
+  pub mode : Mode
+  pub access : Access
+  pub asks : stale.call.asked ≡ askeds.Touch address mode access
   pub reply : IsReplyOf segment stale.reply
   pub names : stale.reply.call ≡ stale.call.event
   pub window : (touch : Touch) → HasTouch segment touch → touch.made ≡ stale.call.event → (n : ℕ)
@@ -136,11 +144,11 @@ pub record IsStaleTouch (start : Space) (segment : Recording) (stale : StaleTouc
       → IsAllowedPrefix start segment touch n ↔ ((stale.first ≤ n) × (n ≤ stale.last))
   pub lag : IsLagOf segment stale.call stale.reply.answer stale.lag
   pub lagging : IfSome stale.lag (IsLagWindow start segment stale)
-  pub looks : AreLooks start segment (asked_address stale.call.request) (fewest stale.first stale.lag) stale.last stale.looks.items
-  pub missed : IsMissed start segment (asked_address stale.call.request) stale.call.event (found_page stale.lag) stale.first stale.missed
-  pub open_then : IsOpenBefore start segment (asked_address stale.call.request) stale.call.event (found_page stale.lag) stale.first stale.still_open
-  pub later : IsLater start segment (asked_address stale.call.request) stale.reply.event stale.last stale.right.behind stale.later
-  pub right : IsNearest start segment stale.call.request stale.reply.answer stale.first stale.last stale.right
+  pub looks : AreLooks start segment address (fewest stale.first stale.lag) stale.last stale.looks.items
+  pub missed : IsMissed start segment address stale.call.event (found_page stale.lag) stale.first stale.missed
+  pub open_then : IsOpenBefore start segment address stale.call.event (found_page stale.lag) stale.first stale.still_open
+  pub later : IsLater start segment address stale.reply.event stale.last stale.right.behind stale.later
+  pub right : IsNearest start segment (queries.Access address mode access) stale.reply.answer stale.first stale.last stale.right
 
 -- an address lingers to look so behind a run
 abbrev pub LingersBehind : Option Run → ℕ → Answer → Type 0
@@ -179,7 +187,7 @@ abbrev pub IsWrongSo : Space → Recording → RecordedCall → WhyWrong → Typ
 IsWrongSo start segment call (Otherwise reply) = IsFirstReplyTo segment call.event (Some reply) × (reply.answer ≢ Done)
 IsWrongSo start segment call (Reached reply reach) =
     IsFirstReplyTo segment call.event reply × IfSome reply (λ it. it.answer ≡ Done)
-    × (given : Given) × (call.gives ≡ Some given) × IsReach start segment call.event given reach
+    × (given : Given) × (call.asked ≡ askeds.Release given.size given.phys) × IsReach start segment call.event given reach
 
 -- the release, and why it is wrong
 pub record IsShownRelease (start : Space) (segment : Recording) (wrong : WrongRelease) : Type 0 where
@@ -200,14 +208,15 @@ abbrev pub IsReachBehind : Option Run → Space → Recording → RecordedCall �
 IsReachBehind before start segment call (Otherwise reply) = ⊤
 IsReachBehind before start segment call (Reached reply reach) =
     LingersAs before reach.address reach.look reach.leading
-    × ((given : Given) → call.gives ≡ Some given → IsLeastReached before start segment (release_at call.event given) reach.address)
+    × ((given : Given) → call.asked ≡ askeds.Release given.size given.phys
+    → IsLeastReached before start segment (release_at call.event given) reach.address)
 
 -- ---- what the segments before say
 
 -- what shows a stale touch has the earlier looks too, and what shows a release such a look, and the least address
 abbrev pub ShowsEarlier : Option Run → Space → Recording → SegmentEvidence → Type 0
-ShowsEarlier before start segment (evidence.Stale stale) =
-    AreEarlier before (asked_address stale.call.request) stale.first (found_page stale.lag) stale.earlier.items
+ShowsEarlier before start segment (evidence.Stale stale) = (address : ℕ) (mode : Mode) (access : Access)
+    → stale.call.asked ≡ askeds.Touch address mode access → AreEarlier before address stale.first (found_page stale.lag) stale.earlier.items
 ShowsEarlier before start segment (evidence.Reachable wrong) = IsReachBehind before start segment wrong.call wrong.why
 ShowsEarlier before start segment shown = ⊤
 

@@ -6,15 +6,15 @@ use Rattle.vs_types.specs.Space.{Space, no_pages}
 use Rattle.vs_types.specs.Step.{look}
 use Rattle.vs_types.specs.declared.answer.Answer.{Answer}
 use Rattle.vs_types.specs.declared.answer.Answer.TheVariants as answers
-use Rattle.vs_types.specs.declared.request.Query.{Query}
-use Rattle.vs_types.specs.declared.request.Query.TheVariants.{Access}
 use Rattle.nr_trace.specs.Recording.{Recording}
+use Rattle.nr_trace.specs.declared.event.Asked.{Asked}
+use Rattle.nr_trace.specs.declared.event.Asked.TheVariants.{Touch}
 use Rattle.nr_touch.specs.Touches.{ChangesLook, IsAnsweredBefore, TakesAway}
 use Rattle.nr_audit.specs.Touches.{known_at, known_to}
 use Rattle.nr_explain.specs.Facts.{looks_from, response, IsCallOf, IsFirstReplyTo, IsReplyOf}
 use Rattle.nr_explain.specs.declared.chain.evidence.Lag.{Lag}
 use Rattle.nr_explain.specs.declared.chain.evidence.OpenUpdate.{OpenUpdate}
-use Rattle.nr_explain.specs.declared.trace.evidence.Given.{Given}
+use Rattle.nr_explain.specs.declared.chain.evidence.Given.{Given}
 use Rattle.nr_explain.specs.declared.trace.evidence.RecordedCall.{RecordedCall}
 use Rattle.nr_explain.specs.declared.trace.evidence.RecordedReply.{RecordedReply}
 use Rattle.nr_explain.specs.declared.chain.evidence.Origin.{Origin}
@@ -38,10 +38,10 @@ IsOrigin began now address Earlier = look now address ≢ look (first_of began) 
 
 -- ---- tables that lag
 
--- the answer is the page fault of an access that finds no page
-abbrev pub IsFaultOfNoPage : Query → Answer → Type 0
-IsFaultOfNoPage (Access address mode access) answer = answer ≡ answers.Fault (fault_code false mode access)
-IsFaultOfNoPage request answer = ⊥
+-- the answer is the page fault of a touch that finds no page
+abbrev pub IsFaultOfNoPage : Asked → Answer → Type 0
+IsFaultOfNoPage (Touch address mode access) answer = answer ≡ answers.Fault (fault_code false mode access)
+IsFaultOfNoPage asked answer = ⊥
 
 -- just so many entries is a replica known to have applied by the replies before an event, and this is the first that shows so many; or none are
 -- known
@@ -53,9 +53,9 @@ IsShownBy segment replica event known (Some reply) =
 
 -- how far the table of a touch's replica may lag, where the touch finds no page
 abbrev pub IsLagOf : Recording → RecordedCall → Answer → Option Lag → Type 0
-IsLagOf segment call answer None = IsFaultOfNoPage call.request answer → ⊥
+IsLagOf segment call answer None = IsFaultOfNoPage call.asked answer → ⊥
 IsLagOf segment call answer (Some lag) =
-    IsFaultOfNoPage call.request answer × (lag.known ≡ known_at segment call.replica call.event)
+    IsFaultOfNoPage call.asked answer × (lag.known ≡ known_at segment call.replica call.event)
     × IsShownBy segment call.replica call.event lag.known lag.shown
 
 -- ---- what ends that an address is found so

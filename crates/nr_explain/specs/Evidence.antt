@@ -4,6 +4,7 @@ use Rattle.std.specs.FinMap as finite
 use Rattle.vs_types.specs.Depth.{levels, IsCanonical}
 use Rattle.vs_types.specs.Space.{Space, no_pages}
 use Rattle.vs_types.specs.declared.depth.Depth.{Depth}
+use Rattle.vs_types.specs.declared.request.Query.{Query}
 use Rattle.vs_walk.specs.Dump.{Image}
 use Rattle.vs_walk.specs.Differences.{IsStray}
 use Rattle.vs_walk.specs.Walk.{walk, as_walk}
@@ -11,6 +12,7 @@ use Rattle.nr_trace.specs.Recording.{Recording}
 use Rattle.nr_trace.specs.Calls.{Answers, Invocation, IsCall, IsUpdate, IsRead, Response, call_of, reply_of, reply_to}
 use Rattle.nr_trace.specs.Faults.{HasDump, StandsAfter}
 use Rattle.nr_trace.specs.Orders.{answer_in, before, floor, known_by, recorded_order, space_from}
+use Rattle.nr_trace.specs.declared.event.Asked.TheVariants.{Request}
 use Rattle.nr_trace.specs.declared.fault.Fault.{Fault}
 use Rattle.nr_trace.specs.declared.fault.Fault.TheVariants as faults
 use Rattle.nr_explain.specs.Facts.{IsCallOf, IsReplyOf, IsFirstReplyTo, response, entries_read, looks_from, IsLastChangeFrom, address_about, IsPath}
@@ -119,14 +121,16 @@ pub record IsEarly (trace : Recording) (early : EarlyCall) : Type 0 where
 -- entries it would be right, and where the space before it has the memory that the answer names
 pub record IsOtherAnswerFrom (start : Space) (trace : Recording) (wrong : OtherAnswer) : Type 0 where
   pub call : IsCallOf trace wrong.call
+  pub request : Query
+  pub asks : wrong.call.asked ≡ Request request
   pub reply : IsReplyOf trace wrong.reply
   pub first : reply_to trace wrong.call.event ≡ Some (response wrong.reply)
-  pub wanted : wrong.wanted ≡ answer_in trace.layout (space_from start trace (before wrong.call.event (recorded_order trace))) wrong.call.request
+  pub wanted : wrong.wanted ≡ answer_in trace.layout (space_from start trace (before wrong.call.event (recorded_order trace))) request
   pub differs : wrong.reply.answer ≢ wrong.wanted
-  pub address : wrong.address ≡ address_about wrong.call.request wrong.wanted
+  pub address : wrong.address ≡ address_about request wrong.wanted
   pub stands : StandsAfter trace wrong.call.event wrong.reply.at
   pub changed : IsLastChangeFrom start trace wrong.address wrong.reply.at wrong.changed
-  pub right : IsNearest start trace wrong.call.request wrong.reply.answer wrong.reply.at wrong.reply.at wrong.right
+  pub right : IsNearest start trace request wrong.reply.answer wrong.reply.at wrong.reply.at wrong.right
   pub memory : IsMemoryOf (space_from start trace (take wrong.reply.at trace.log)) wrong.reply.answer wrong.memory
 
 -- the call is answered otherwise than the space answers it after the updates that come before it, from no pages on

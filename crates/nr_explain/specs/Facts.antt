@@ -1,6 +1,6 @@
 -- Facts of a trace that evidence is made of.
 use Rattle.std.specs.Prelude.{◌≡◌, ◌≢◌, ℕ, zero, suc, ◌+◌, ◌-◌, ◌<◌, ◌≤◌, List, [], ◌∷◌, length, take, slice_get, slice_index, Option, Some}
-use Rattle.std.specs.Prelude.{None, option_map}
+use Rattle.std.specs.Prelude.{None}
 use Rattle.std.specs.FinMap as finite
 use Rattle.vs_types.specs.Depth.{index_at}
 use Rattle.vs_types.specs.Entry.{meaning}
@@ -16,9 +16,9 @@ use Rattle.vs_types.specs.declared.request.Query.{Query}
 use Rattle.vs_types.specs.declared.request.Query.TheVariants.{Update, Resolve, Access}
 use Rattle.vs_walk.specs.Memory.{Memory}
 use Rattle.nr_trace.specs.Recording.{Recording}
-use Rattle.nr_trace.specs.Calls.{Answers, Invocation, Released, Response, call_of, released_of, reply_of}
+use Rattle.nr_trace.specs.Calls.{Answers, Invocation, Released, Response, call_of, reply_of}
 use Rattle.nr_trace.specs.Orders.{space_from}
-use Rattle.nr_explain.specs.declared.trace.evidence.Given.{Given}
+use Rattle.nr_explain.specs.declared.chain.evidence.Given.{Given}
 use Rattle.nr_explain.specs.declared.trace.evidence.RecordedCall.{RecordedCall}
 use Rattle.nr_explain.specs.declared.trace.evidence.RecordedReply.{RecordedReply}
 use Rattle.nr_explain.specs.declared.trace.evidence.PlacedUpdate.{PlacedUpdate}
@@ -26,16 +26,15 @@ use Rattle.nr_explain.specs.declared.trace.evidence.TableEntry.{TableEntry}
 
 -- what a recorded call says that it asks
 abbrev pub invocation : RecordedCall → Invocation
-invocation call = record { replica = call.replica; thread = call.thread; request = call.request; touch = call.touch }
+invocation call = record { replica = call.replica; thread = call.thread; asked = call.asked }
 
 -- the memory that is given away
 abbrev pub released : Given → Released
 released given = record { size = given.size; phys = given.phys }
 
--- the event is this call, and gives this memory away, if it is a release
+-- the event is this call
 abbrev pub IsCallOf : Recording → RecordedCall → Type 0
-IsCallOf trace call =
-    (call_of trace call.event ≡ Some (invocation call)) × (released_of trace call.event ≡ option_map released call.gives)
+IsCallOf trace call = call_of trace call.event ≡ Some (invocation call)
 
 -- what a recorded reply says of its call
 abbrev pub response : RecordedReply → Response
@@ -68,7 +67,7 @@ IsLastChangeFrom start trace address end (Some update) =
     × (looks_from start trace address update.place ≢ looks_from start trace address (update.place + 1))
     × LooksSameFrom start trace address (update.place + 1) end
 
--- the address that a call asks for
+-- the address that a request asks for
 abbrev pub asked_address : Query → ℕ
 asked_address (Update (Map page)) = page.base
 asked_address (Update (Unmap base)) = base

@@ -1,5 +1,5 @@
 -- What the segments of a chain so far have come to, as a reader sees it that explains the chain.
-use Rattle.std.specs.Prelude.{◌≡◌, ℕ, ◌+◌, ◌-◌, ◌^◌, ⊤, Bool, true, false, List, length, min, count_by, nat_lt, Option, Some, None, option_map}
+use Rattle.std.specs.Prelude.{◌≡◌, ℕ, ◌-◌, ⊤, Bool, true, false, List, length, count_by, nat_lt, Option, Some, None, option_map}
 use Rattle.std.specs.FinMap as finite
 use Rattle.vs_types.specs.Space.{Space, pages}
 use Rattle.vs_types.specs.Config.{Layout}
@@ -7,7 +7,8 @@ use Rattle.vs_walk.specs.Dump.{Image}
 use Rattle.nr_trace.specs.Recording.{Recording}
 use Rattle.nr_trace.specs.Orders.{recorded_order}
 use Rattle.nr_trace.specs.declared.event.Event.{Event}
-use Rattle.nr_trace.specs.declared.event.Event.TheVariants.{Call, Release, Reply, Touch}
+use Rattle.nr_trace.specs.declared.event.Event.TheVariants.{Call}
+use Rattle.nr_trace.specs.declared.event.Asked.TheVariants as askeds
 use Rattle.nr_joined.specs.Run.{Run, end_of}
 use Rattle.nr_touch.specs.Tails.{IsTailOfRun}
 use Rattle.nr_touch.specs.declared.touches.tail.Tail.{Tail}
@@ -71,17 +72,13 @@ IsSeenOf came seen = ⊥
 
 -- whether an event is a touch
 abbrev pub is_touch : Event → Bool
-is_touch (Call replica thread request) = false
-is_touch (Reply call at answer) = false
-is_touch (Release replica thread size phys) = false
-is_touch (Touch replica thread address mode access) = true
+is_touch (Call replica thread (askeds.Touch address mode access)) = true
+is_touch event = false
 
 -- whether an event is a release
 abbrev pub is_release : Event → Bool
-is_release (Call replica thread request) = false
-is_release (Reply call at answer) = false
-is_release (Touch replica thread address mode access) = false
-is_release (Release replica thread size phys) = true
+is_release (Call replica thread (askeds.Release size phys)) = true
+is_release event = false
 
 -- whether a dump has a frame
 abbrev pub is_there : Image → Bool

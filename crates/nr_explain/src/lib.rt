@@ -14,8 +14,8 @@ mod units;
 
 pub use calls::answers::{address_about, asked_address};
 pub use chain::evidence::{
-    BadSegment, Lag, Leading, MissedUpdate, Moment, OpenUpdate, Origin, Reach, SegmentEvidence,
-    StaleTouch, StartBeyond, StartDiffers, WhyWrong, WrongRelease,
+    BadSegment, Given, Lag, Leading, MissedUpdate, Moment, OpenUpdate, Origin, Reach,
+    SegmentEvidence, StaleTouch, StartBeyond, StartDiffers, WhyWrong, WrongRelease,
 };
 pub use chain::explanation::{ChainCounts, ChainExplanation};
 pub use chain::reader::{ChainReader, ReaderStep};
@@ -32,10 +32,9 @@ pub use tables::paths::{
 pub use trace::all_dumps::{DumpExplanation, FullExplanation, explain_all_read};
 pub use trace::counts::Counts;
 pub use trace::evidence::{
-    Difference, EarlyCall, Evidence, Given, LongPrefix, Misplaced, MissingTable, NoUpdate,
-    OpenCalls, OtherAnswer, Owner, PastEnd, PlacedUpdate, RecordedCall, RecordedReply,
-    ReservedEntry, SharedTable, ShortPrefix, StrayReply, StrayTable, TableEntry, TwoPlaces,
-    TwoReplies,
+    Difference, EarlyCall, Evidence, LongPrefix, Misplaced, MissingTable, NoUpdate, OpenCalls,
+    OtherAnswer, Owner, PastEnd, PlacedUpdate, RecordedCall, RecordedReply, ReservedEntry,
+    SharedTable, ShortPrefix, StrayReply, StrayTable, TableEntry, TwoPlaces, TwoReplies,
 };
 pub use trace::explaining::{Explanation, explain, explain_read};
 pub use trace::nearby::{NamedMemory, RightAfter, Stretch};

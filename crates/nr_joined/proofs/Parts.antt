@@ -8,9 +8,8 @@ use Rattle.std.proofs.lemmas.List.Elements.{filter_map-append}
 use Rattle.std.proofs.lemmas.Option.{slice_get-map}
 use Rattle.vs_types.proofs.Lists.{get_left, get_right}
 use Rattle.nr_trace.specs.Recording.{Recording}
-use Rattle.nr_trace.specs.Calls.{Invocation, made_by, call_of, operation_in, read_address, operation_of, address_of, touch_of, IsCall, IsUpdate, IsRead}
-use Rattle.nr_trace.specs.Calls.{Response}
-use Rattle.nr_trace.specs.Calls.{reply_in, reply_of, reply_to, IsAnswered, Answers}
+use Rattle.nr_trace.specs.Calls.{Invocation, made_by, call_of, request_in, unordered_in, operation_in, read_address, request_of, operation_of, address_of}
+use Rattle.nr_trace.specs.Calls.{touch_of, IsCall, IsUpdate, IsRead, Response, reply_in, reply_of, reply_to, IsAnswered, Answers}
 use Rattle.nr_trace.specs.declared.event.Event.{Event}
 use Rattle.nr_trace.specs.declared.event.Event.TheVariants.{Reply}
 use Rattle.nr_trace.proofs.LawsOfCalls.{answers_from, reply_below, reply_that_answers}
@@ -34,29 +33,31 @@ call_right first second call =
     ∙ slice_get-map (event_behind (length first.events) (length first.log)) second.events call)
     ∙ made_behind (length first.events) (length first.log) (slice_get second.events call)
 
+pub request_left : (first second : Recording) (call : ℕ) → call < length first.events → request_of (joined_traces first second) call ≡ request_of first call
+request_left first second call l = ap (option_and_then (λ (made : Invocation). request_in made.asked)) (call_left first second call l)
+
+pub request_right : (first second : Recording) (call : ℕ) → request_of (joined_traces first second) (length first.events + call) ≡ request_of second call
+request_right first second call = ap (option_and_then (λ (made : Invocation). request_in made.asked)) (call_right first second call)
+
 pub operation_left : (first second : Recording) (call : ℕ) → call < length first.events
     → operation_of (joined_traces first second) call ≡ operation_of first call
-operation_left first second call l = ap (option_and_then (λ (made : Invocation). operation_in made.request)) (call_left first second call l)
+operation_left first second call l = ap (option_and_then operation_in) (request_left first second call l)
 
 pub operation_right : (first second : Recording) (call : ℕ)
     → operation_of (joined_traces first second) (length first.events + call) ≡ operation_of second call
-operation_right first second call = ap (option_and_then (λ (made : Invocation). operation_in made.request)) (call_right first second call)
+operation_right first second call = ap (option_and_then operation_in) (request_right first second call)
 
 pub address_left : (first second : Recording) (call : ℕ) → call < length first.events → address_of (joined_traces first second) call ≡ address_of first call
-address_left first second call l =
-    ap (option_and_then (λ (made : Invocation). if made.touch then None else read_address made.request)) (call_left first second call l)
+address_left first second call l = ap (option_and_then read_address) (request_left first second call l)
 
 pub address_right : (first second : Recording) (call : ℕ) → address_of (joined_traces first second) (length first.events + call) ≡ address_of second call
-address_right first second call =
-    ap (option_and_then (λ (made : Invocation). if made.touch then None else read_address made.request)) (call_right first second call)
+address_right first second call = ap (option_and_then read_address) (request_right first second call)
 
 pub touch_left : (first second : Recording) (call : ℕ) → call < length first.events → touch_of (joined_traces first second) call ≡ touch_of first call
-touch_left first second call l =
-    ap (option_and_then (λ (made : Invocation). if made.touch then Some made.request else None)) (call_left first second call l)
+touch_left first second call l = ap (option_and_then (λ (made : Invocation). unordered_in made.asked)) (call_left first second call l)
 
 pub touch_right : (first second : Recording) (call : ℕ) → touch_of (joined_traces first second) (length first.events + call) ≡ touch_of second call
-touch_right first second call =
-    ap (option_and_then (λ (made : Invocation). if made.touch then Some made.request else None)) (call_right first second call)
+touch_right first second call = ap (option_and_then (λ (made : Invocation). unordered_in made.asked)) (call_right first second call)
 
 -- ---- replies
 

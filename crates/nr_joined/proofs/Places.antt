@@ -7,7 +7,7 @@ use Rattle.std.specs.List.{cons_option}
 use Rattle.std.proofs.lemmas.Bool.{cases_lt}
 use Rattle.std.proofs.lemmas.Option.{none-some, slice_get-map, slice_get_within}
 use Rattle.vs_types.specs.declared.op.Action.{Action}
-use Rattle.vs_types.specs.declared.request.Query.{Query}
+use Rattle.nr_trace.specs.declared.event.Asked.{Asked}
 use Rattle.vs_types.proofs.Lists.{get_left, get_right}
 use Rattle.nr_trace.specs.Recording.{Recording}
 use Rattle.nr_trace.specs.Calls.{operation_of, touch_of, IsOrdered, IsRead, Response, reply_in, reply_of, reply_to}
@@ -141,17 +141,17 @@ stood_right first second call entries earlier own_places (inr (r, reply, is, e))
 pub known_left : (first second : Recording) (reply : Response) → reply.call < length first.events
     → known_by (joined_traces first second) reply ≡ known_by first reply
 known_left first second reply l =
-    ap₂ (λ (o : Option Action) (t : Option Query). option_map_or (λ (action : Action). reply.at + 1) o (option_map_or (λ (touch : Query). 0) t reply.at))
+    ap₂ (λ (o : Option Action) (t : Option Asked). option_map_or (λ (action : Action). reply.at + 1) o (option_map_or (λ (touch : Asked). 0) t reply.at))
     (operation_left first second reply.call l) (touch_left first second reply.call l)
 
 -- how many entries are known, behind so many places: as many more, but by a reply to a touch none
 abbrev pub KnowsBehind : ℕ → ℕ → ℕ → Type 0
 KnowsBehind places own known = (known ≤ places + own) × (0 < own → known ≡ places + own)
 
-abbrev known_from : ℕ → Option Action → Option Query → ℕ
-known_from at o t = option_map_or (λ (action : Action). at + 1) o (option_map_or (λ (touch : Query). 0) t at)
+abbrev known_from : ℕ → Option Action → Option Asked → ℕ
+known_from at o t = option_map_or (λ (action : Action). at + 1) o (option_map_or (λ (touch : Asked). 0) t at)
 
-known_behind : (places at : ℕ) (o : Option Action) (t : Option Query) → KnowsBehind places (known_from at o t) (known_from (places + at) o t)
+known_behind : (places at : ℕ) (o : Option Action) (t : Option Asked) → KnowsBehind places (known_from at o t) (known_from (places + at) o t)
 known_behind places at None (Some touch) = (omega arith, λ some. absurd (omega arith))
 known_behind places at _ _ = (omega arith, λ some. omega arith)
 

@@ -1,12 +1,14 @@
 -- What holds of the log and of the batches of a run: each call has at most one place, or is in at most one batch.
-use Rattle.std.proofs.Common.{◌≡◌, ℕ, ◌+◌, ◌-◌, ◌<◌, ◌≤◌, nat_lt, Bool, true, false, ◌⊎◌, inl, inr, Some, None, List, [], length, refl, ap, sym, subst, ◌∙◌, arith}
+use Rattle.std.proofs.Common.{◌≡◌, ℕ, ◌+◌, ◌-◌, ◌<◌, ◌≤◌, nat_lt, Bool, true, false, ◌⊎◌, inl}
+use Rattle.std.proofs.Common.{inr, Some, None, List, [], length, refl, ap, sym, subst, ◌∙◌, arith}
 use Rattle.std.specs.Prelude.{slice_get}
 use Rattle.std.proofs.lemmas.Bool.Decides.{nat_tests}
 use Rattle.vs_types.specs.declared.log_entry.LogEntry.{LogEntry}
 use Rattle.vs_types.specs.declared.request.Query.TheVariants.{Update as Updates}
 use Rattle.nr_trace.specs.Calls.{Invocation, made_by}
 use Rattle.nr_trace.specs.declared.event.Event.{Event}
-use Rattle.nr_core.specs.inside.Reached.{AreEntries, Behind, call_at}
+use Rattle.nr_trace.specs.declared.event.Asked.TheVariants as askeds
+use Rattle.nr_core.specs.inside.Reached.{request_made, AreEntries, Behind, call_at}
 use Rattle.nr_core.proofs.reached.Growth.{HaveCalls, Longer, behind_stays, read_stays, read_within, then_from}
 use Rattle.nr_machine.specs.declared.words.Update.{Update}
 use Rattle.nr_machine.specs.Actor.{Actor, update_at}
@@ -22,7 +24,7 @@ use Rattle.nr_machine_runs.proofs.Values.{value_at}
 -- the entry is that of a recorded update, and by no reply before that call more entries are known than the place
 abbrev pub IsEntryAt : List Event → LogEntry → ℕ → Type 0
 IsEntryAt events entry place =
-    (made : Invocation) × (call_at events entry.call ≡ Some made) × (made.request ≡ Updates entry.op) × Behind events entry.call place
+    (made : Invocation) × (call_at events entry.call ≡ Some made) × (request_made made ≡ Updates entry.op) × Behind events entry.call place
 
 abbrev pub place_call : (Update → LogEntry) → Log → ℕ → ℕ
 place_call means log p = (means (log.entry p)).call
@@ -242,7 +244,7 @@ placed_appended nodes means events log log' actor given n first a lt more none s
       (of_call (is.calls n lt i within)) where
         of_call : IsCallAt events n (means (update_at batch i)) → IsEntryAt events (means (update_at batch i)) p
         of_call (thread, there) = (
-          record { replica = n; thread = thread; request = Updates (means (update_at batch i)).op; touch = false },
+          record { replica = n; thread = thread; asked = askeds.Request (Updates (means (update_at batch i)).op) },
           then_from made_by (slice_get events (means (update_at batch i)).call) _ _ there refl,
           refl,
           behind (means (update_at batch i)).call p (omega (arith, at)),

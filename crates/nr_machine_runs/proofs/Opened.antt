@@ -7,6 +7,7 @@ use Rattle.vs_types.specs.declared.request.Query.{Query}
 use Rattle.nr_trace.specs.Calls.{Invocation, made_by, Response, reply_in}
 use Rattle.nr_trace.specs.declared.event.Event.{Event}
 use Rattle.nr_trace.specs.declared.event.Event.TheVariants as event
+use Rattle.nr_trace.specs.declared.event.Asked.TheVariants as askeds
 use Rattle.nr_core.specs.State.{Thread}
 use Rattle.nr_core.specs.inside.Reached.{At, call_at, reply_at, RepliesTo, open_in, IsUnanswered, HasOpen, AreCalls}
 use Rattle.nr_core.proofs.reached.Places.{at_set}
@@ -20,7 +21,7 @@ AreAfterCalls events = (index : ℕ) (reply : Response) → reply_at events inde
     → (made : Invocation) × (reply.call < index) × (call_at events reply.call ≡ Some made)
 
 pub opens : (events : List Event) (threads : List Thread) (t r : ℕ) (request : Query) → AreCalls events threads → AreAfterCalls events
-    → At threads t idle → AreCalls (events ++ event.Call r t request ∷ []) (slice_set threads t (waiting (length events)))
+    → At threads t idle → AreCalls (events ++ event.Call r t (askeds.Request request) ∷ []) (slice_set threads t (waiting (length events)))
 opens events threads t r request calls replies at =
     calls_go_on events next threads t (waiting (length events)) calls (record {
       opened = λ c e. subst (IsUnanswered later t) (same_Some (length events) c e)
@@ -33,10 +34,10 @@ opens events threads t r request calls replies at =
       in_turn = λ earlier first second e f same. replied earlier first (same ∙ sym (of_t second f)) (calls.ended earlier first e);
     }) where
       next : Event
-      next = event.Call r t request
+      next = event.Call r t (askeds.Request request)
 
       made : Invocation
-      made = record { replica = r; thread = t; request = request; touch = false }
+      made = record { replica = r; thread = t; asked = askeds.Request request }
 
       later : List Event
       later = events ++ next ∷ []

@@ -1,5 +1,6 @@
 -- What holds of every run that is recorded holds after each note.
-use Rattle.std.proofs.Common.{◌≡◌, ℕ, ◌+◌, ◌/◌, ◌%◌, ◌<◌, ◌≤◌, ◌==◌, Bool, true, false, cond, ◌⊎◌, inl, inr, Option, Some, None, List, [], ◌∷◌, ◌++◌, length, refl, ap, sym, subst, ◌∙◌, arith}
+use Rattle.std.proofs.Common.{◌≡◌, ℕ, ◌+◌, ◌/◌, ◌%◌, ◌<◌, ◌≤◌, ◌==◌, Bool, true, false, cond, ◌⊎◌, inl, inr}
+use Rattle.std.proofs.Common.{Option, Some, None, List, [], ◌∷◌, ◌++◌, length, refl, ap, sym, subst, ◌∙◌, arith}
 use Rattle.std.specs.Prelude.{slice_get, slice_set}
 use Rattle.std.specs.Option.{option_map_or}
 use Rattle.std.proofs.lemmas.Option.{none-some, same_Some}
@@ -14,11 +15,13 @@ use Rattle.nr_trace.specs.Calls.{Invocation, made_by, operation_in, Response, re
 use Rattle.nr_trace.specs.Orders.{answer_in}
 use Rattle.nr_trace.specs.declared.event.Event.{Event}
 use Rattle.nr_trace.specs.declared.event.Event.TheVariants as event
+use Rattle.nr_trace.specs.declared.event.Asked.TheVariants as askeds
 use Rattle.nr_core.specs.State.{Replica, Thread}
 use Rattle.nr_core.specs.inside.Reached.{At, AreCalls, Behind, IsRight, call_at, reach, reply_at}
 use Rattle.nr_core.proofs.reached.Events.{one_longer, read_last}
 use Rattle.nr_core.proofs.reached.Places.{each_set}
-use Rattle.nr_core.proofs.reached.Growth.{Grows, HaveCalls, Longer, behind_completed, behind_more, read_stays, read_within, replies_stay, right_stays, then_from}
+use Rattle.nr_core.proofs.reached.Growth.{Grows, HaveCalls, Longer, behind_completed, behind_more}
+use Rattle.nr_core.proofs.reached.Growth.{read_stays, read_within, replies_stay, right_stays, then_from}
 use Rattle.nr_machine.specs.declared.words.Operation.{Operation}
 use Rattle.nr_machine.specs.declared.words.Operation.TheVariants.{Load, Store, Exchange, Max}
 use Rattle.nr_machine.specs.declared.words.Word.TheVariants.{Head}
@@ -41,7 +44,8 @@ use Rattle.nr_machine_runs.proofs.Histories.{appended_is, log_grows}
 use Rattle.nr_machine_runs.proofs.Noted.{IsEntryAt, IsNoMore, IsPlaced, as_before, none_left, placed_appended, placed_begun, placed_later, placed_on}
 use Rattle.nr_machine_runs.proofs.Opened.{closes, opens}
 use Rattle.nr_machine_runs.proofs.Values.{answers_are, at_value, space_is, value_at}
-use Rattle.nr_machine_runs.proofs.Ended.{AllEnded, GoesOn, IsNoted, IsPlain, IsReader, ReadEnded, UpdateEnded, all_stay, grows, have_calls, reader_stays, same_events, shared_of}
+use Rattle.nr_machine_runs.proofs.Ended.{AllEnded, GoesOn, IsNoted, IsPlain, IsReader, ReadEnded, UpdateEnded}
+use Rattle.nr_machine_runs.proofs.Ended.{all_stay, grows, have_calls, reader_stays, same_events, shared_of}
 
 -- ---- steps of the schedule
 
@@ -318,7 +322,7 @@ event_noted layout means run e threads is calls plain right = record {
 pub called : (layout : Layout) (means : Update → LogEntry) (run : Run) (t r : ℕ) (request : Query) → IsNoted layout means run
     → MayNote layout means run (Calls t r request) → IsNoted layout means (noted layout means run (Calls t r request))
 called layout means run t r request is may =
-    event_noted layout means run (event.Call r t request) (slice_set run.threads t (waiting (length run.events))) is
+    event_noted layout means run (event.Call r t (askeds.Request request)) (slice_set run.threads t (waiting (length run.events))) is
     (opens run.events run.threads t r request is.calls
     (λ index reply h. let (made, before, at, right) = is.replies index reply h in (made, before, at)) may)
     (each_set (λ (u : ℕ) (thread : Thread). IsPlain thread) run.threads t (waiting (length run.events)) (inr (length run.events, refl))
@@ -345,7 +349,7 @@ update_right layout means run c first i batch answers answer is right ended lt a
     let w = run.nodes.world in
     let entry = means (update_at batch i) in
     let asked = ended.calls i lt in
-    let made : Invocation = record { replica = ended.node; thread = asked.0; request = queries.Update entry.op; touch = false } in
+    let made : Invocation = record { replica = ended.node; thread = asked.0; asked = askeds.Request (queries.Update entry.op) } in
     let most = right.0 in
     let within : first + i < w.log.tail = omega (arith, most, lt) in
     let here : w.log.entry (first + i) ≡ update_at batch i = (right.2 i lt).1 in
@@ -355,7 +359,7 @@ update_right layout means run c first i batch answers answer is right ended lt a
     let done = ended.completed in
     let applied = ended.applied in (
       made,
-      then_from made_by (slice_get run.events entry.call) (event.Call ended.node asked.0 (queries.Update entry.op)) made asked.1 refl,
+      then_from made_by (slice_get run.events entry.call) (event.Call ended.node asked.0 (askeds.Request (queries.Update entry.op))) made asked.1 refl,
       record {
         placed = λ action e. (
           entry,
@@ -384,20 +388,20 @@ reach_of_read request n none = ap (λ (o : Option Action). option_map_or (λ (ac
 read_right : (layout : Layout) (means : Update
     → LogEntry) (run : Run) (c count n thread : ℕ) (space : Space) (request : Query) (answer : Answer)
     → IsNoted layout means run → IsRightReply (space_kind layout means) run.nodes.world (Saw c count space)
-    → ReadEnded layout run.events run.nodes (run.reads c) c count → slice_get run.events (run.reads c) ≡ Some (event.Call n thread request)
+    → ReadEnded layout run.events run.nodes (run.reads c) c count → slice_get run.events (run.reads c) ≡ Some (event.Call n thread (askeds.Request request))
     → answer ≡ answer_in layout space request → GaveRight layout means run (run.reads c) count answer
 read_right layout means run c count n thread space request answer is right ended at gave =
     let w = run.nodes.world in
     let its = ended.reads in
-    let made : Invocation = record { replica = ended.node; thread = its.0; request = its.1; touch = false } in
-    let same : event.Call n thread request ≡ event.Call ended.node its.0 its.1 =
-    same_Some (event.Call n thread request) (event.Call ended.node its.0 its.1) (sym at ∙ its.2) in
+    let made : Invocation = record { replica = ended.node; thread = its.0; asked = askeds.Request its.1 } in
+    let same : event.Call n thread (askeds.Request request) ≡ event.Call ended.node its.0 (askeds.Request its.1) =
+    same_Some (event.Call n thread (askeds.Request request)) (event.Call ended.node its.0 (askeds.Request its.1)) (sym at ∙ its.2) in
     let asks : request ≡ its.1 = cc in
     let known = reach_of_read its.1 count its.3 in
     let done = ended.completed in
     let applied = ended.applied in (
       made,
-      then_from made_by (slice_get run.events (run.reads c)) (event.Call ended.node its.0 its.1) made its.2 refl,
+      then_from made_by (slice_get run.events (run.reads c)) (event.Call ended.node its.0 (askeds.Request its.1)) made its.2 refl,
       record {
         placed = λ action e. absurd (none-some action (sym its.3 ∙ e));
         known = omega (arith, known, done);

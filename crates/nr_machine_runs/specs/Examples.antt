@@ -8,6 +8,7 @@ use Rattle.vs_types.specs.declared.op.Action.TheVariants.{Unmap}
 use Rattle.vs_types.specs.declared.request.Query.TheVariants as queries
 use Rattle.nr_trace.specs.declared.event.Event.{Event}
 use Rattle.nr_trace.specs.declared.event.Event.TheVariants as events
+use Rattle.nr_trace.specs.declared.event.Asked.TheVariants as askeds
 use Rattle.nr_machine.specs.declared.words.Update.{Update}
 use Rattle.nr_machine.specs.World.{Act}
 use Rattle.nr_machine.specs.World.Act.{Begins}
@@ -54,6 +55,6 @@ abbrev pub example : List Note
 example = three_call ++ (taken both_append ++ (other_replies ++ (taken one_ends ++ (both_reply ++ (taken one_catches_up ++ one_replies)))))
 
 abbrev pub its_events : List Event
-its_events = events.Call 1 0 (queries.Update (Unmap 0)) ∷ events.Call 1 1 (queries.Update (Unmap 0))
-    ∷ events.Call 0 2 (queries.Update (Unmap 0)) ∷ events.Reply 2 2 NotMapped ∷ events.Reply 0 0 NotMapped ∷ events.Reply 1 1 NotMapped
-    ∷ events.Call 1 0 (queries.Resolve 0) ∷ events.Reply 6 3 NotMapped ∷ []
+its_events = events.Call 1 0 (askeds.Request (queries.Update (Unmap 0))) ∷ events.Call 1 1 (askeds.Request (queries.Update (Unmap 0)))
+    ∷ events.Call 0 2 (askeds.Request (queries.Update (Unmap 0))) ∷ events.Reply 2 2 NotMapped ∷ events.Reply 0 0 NotMapped ∷ events.Reply 1 1 NotMapped
+    ∷ events.Call 1 0 (askeds.Request (queries.Resolve 0)) ∷ events.Reply 6 3 NotMapped ∷ []

@@ -13,6 +13,7 @@ use Rattle.nr_trace.specs.Orders.{answer_in}
 use Rattle.nr_trace.specs.Recording.{Recording}
 use Rattle.nr_trace.specs.declared.event.Event.{Event}
 use Rattle.nr_trace.specs.declared.event.Event.TheVariants as events
+use Rattle.nr_trace.specs.declared.event.Asked.TheVariants as askeds
 use Rattle.nr_core.specs.Run.{IsRecordingOf}
 use Rattle.nr_core.specs.State.{Replica, State, Thread, new_thread}
 use Rattle.nr_core.specs.declared.stage.Stage.TheVariants.{Taken}
@@ -59,12 +60,12 @@ pub data Note : Type 0 where
 
 -- the entry is of a recorded call of an update at the node
 abbrev pub IsCallAt : List Event → ℕ → LogEntry → Type 0
-IsCallAt recorded n entry = (thread : ℕ) × (slice_get recorded entry.call ≡ Some (events.Call n thread (queries.Update entry.op)))
+IsCallAt recorded n entry = (thread : ℕ) × (slice_get recorded entry.call ≡ Some (events.Call n thread (askeds.Request (queries.Update entry.op))))
 
 -- it is a recorded call at the node that reads
 abbrev pub IsReadAt : List Event → ℕ → ℕ → Type 0
 IsReadAt recorded n call =
-    (thread : ℕ) × (request : Query) × (slice_get recorded call ≡ Some (events.Call n thread request)) × (operation_in request ≡ None)
+    (thread : ℕ) × (request : Query) × (slice_get recorded call ≡ Some (events.Call n thread (askeds.Request request))) × (operation_in request ≡ None)
 
 -- the updates are of calls at the node that were given to no machine before
 abbrev pub MayGive : (Update → LogEntry) → List Event → ℕ → (ℕ → Bool) → List Update → Type 0
@@ -88,7 +89,7 @@ abbrev pub Gives : Layout → (Update → LogEntry) → Run → Reply Space Answ
 Gives layout means run (Updated c first batch answers) call at answer =
     (i : ℕ) × (i < length batch) × ((means (update_at batch i)).call ≡ call) × (at ≡ first + i) × (slice_get answers i ≡ Some answer)
 Gives layout means run (Saw c count space) call at answer = (run.reads c ≡ call) × (at ≡ count)
-    × (n : ℕ) × (thread : ℕ) × (request : Query) × (slice_get run.events call ≡ Some (events.Call n thread request))
+    × (n : ℕ) × (thread : ℕ) × (request : Query) × (slice_get run.events call ≡ Some (events.Call n thread (askeds.Request request)))
     × (answer ≡ answer_in layout space request)
 
 -- some of the replies gives this to the call
@@ -112,7 +113,7 @@ MayNote layout means run (Replies t call at answer) =
 -- the run with a note more
 abbrev pub noted : Layout → (Update → LogEntry) → Run → Note → Run
 noted layout means run (Calls t r request) = record run {
-  events = run.events ++ events.Call r t request ∷ [];
+  events = run.events ++ events.Call r t (askeds.Request request) ∷ [];
   threads = slice_set run.threads t (waiting (length run.events));
 }
 noted layout means run (Takes act) = record run {

@@ -47,10 +47,10 @@ module _ (trace : Recording) (order found : List ℕ) where
   precedence h = λ first second a b p. h first second a b (same.precedes_to trace order first second p)
 
   answers : (start : Space) → HasAnswersFrom start (with_order trace order) found → HasAnswersFrom start trace found
-  answers start h = λ call made reply is no_touch replied.
-      h call made (same.placed trace order reply) (same.same_call trace order call ∙ is) no_touch
+  answers start h = λ call request reply is replied.
+      h call request (same.placed trace order reply) (same.same_request trace order call ∙ is)
       (same.same_reply_to trace order call ∙ ap (option_map (same.placed trace order)) replied)
-      ∙ ap (λ (space : Space). answer_in trace.layout space made.request) (same.same_space trace order start (before call found))
+      ∙ ap (λ (space : Space). answer_in trace.layout space request) (same.same_space trace order start (before call found))
 
   fits : (start : Space) (replica : ℕ) (dump : Image) → FitsFrom start (with_order trace order) found replica dump → FitsFrom start trace found replica dump
   fits start replica dump h =

@@ -7,8 +7,8 @@ use Rattle.std.proofs.lemmas.Option.{slice_get-map}
 use Rattle.vs_types.specs.Space.{Space}
 use Rattle.vs_types.specs.Step.{after_all}
 use Rattle.nr_trace.specs.Recording.{Recording}
-use Rattle.nr_trace.specs.Calls.{Invocation, made_by, call_of, operation_in, read_address, operation_of, address_of, IsCall, IsUpdate, IsRead, IsOrdered}
-use Rattle.nr_trace.specs.Calls.{Response, reply_in, reply_of, reply_to, IsAnswered, Answers, Precedes}
+use Rattle.nr_trace.specs.Calls.{Invocation, made_by, call_of, request_in, operation_in, read_address, request_of, operation_of, address_of}
+use Rattle.nr_trace.specs.Calls.{IsCall, IsUpdate, IsRead, IsOrdered, Response, reply_in, reply_of, reply_to, IsAnswered, Answers, Precedes}
 use Rattle.nr_trace.specs.Orders.{updates, operations, space_from}
 use Rattle.nr_trace.specs.declared.event.Event.{Event}
 use Rattle.nr_trace.specs.declared.event.Event.TheVariants.{Reply}
@@ -32,11 +32,14 @@ module _ (trace : Recording) (order : List ℕ) where
   same_call call =
       ap (option_and_then made_by) (slice_get-map (placed_by trace order) trace.events call) ∙ made_placed (slice_get trace.events call)
 
+  pub same_request : (call : ℕ) → request_of (with_order trace order) call ≡ request_of trace call
+  same_request call = ap (option_and_then (λ (made : Invocation). request_in made.asked)) (same_call call)
+
   pub same_operation : (call : ℕ) → operation_of (with_order trace order) call ≡ operation_of trace call
-  same_operation call = ap (option_and_then (λ (made : Invocation). operation_in made.request)) (same_call call)
+  same_operation call = ap (option_and_then operation_in) (same_request call)
 
   pub same_address : (call : ℕ) → address_of (with_order trace order) call ≡ address_of trace call
-  same_address call = ap (option_and_then (λ (made : Invocation). if made.touch then None else read_address made.request)) (same_call call)
+  same_address call = ap (option_and_then read_address) (same_request call)
 
   pub call_to : (call : ℕ) → IsCall trace call → IsCall (with_order trace order) call
   call_to call is = subst IsSome (sym (same_call call)) is

@@ -3,7 +3,7 @@
 ghost use Rattle.std.specs.Prelude.{IfOk, IfSome};
 ghost use Rattle.nr_order.specs.Finding.{IsOrderedOf};
 
-use crate::asked::{Asked, NEVER, short};
+use crate::calls::{NEVER, Orderable, short};
 use crate::demands::Demands;
 use crate::frontier::Aims;
 use crate::judging::{Ordered, judge_order};
@@ -16,7 +16,7 @@ use vs_types::{Fail, Memory, Page};
 use vs_walk::leaves;
 
 /// The numbers of the calls of these indexes.
-fn numbers_of(alloc: Global, calls: &[Asked], order: &[u32]) -> Result<Vec<u32>, Memory> {
+fn numbers_of(alloc: Global, calls: &[Orderable], order: &[u32]) -> Result<Vec<u32>, Memory> {
     let mut numbers = Vec::with_capacity(alloc, order.len())?;
     for index in order {
         if let Some(call) = calls.get(*index as usize) {
@@ -54,13 +54,18 @@ struct Ranked {
 #[derive(Drop)]
 pub(crate) struct Attempts {
     alloc: Global,
-    calls: Vec<Asked>,
+    calls: Vec<Orderable>,
     demands: Demands,
     steps: u32,
 }
 
 impl Attempts {
-    pub(crate) fn new(alloc: Global, calls: Vec<Asked>, demands: Demands, steps: u32) -> Attempts {
+    pub(crate) fn new(
+        alloc: Global,
+        calls: Vec<Orderable>,
+        demands: Demands,
+        steps: u32,
+    ) -> Attempts {
         Attempts {
             alloc,
             calls,
@@ -73,7 +78,7 @@ impl Attempts {
     fn find(
         &mut self,
         trace: &Trace,
-        calls: &[Asked],
+        calls: &[Orderable],
         aims: Aims,
         most: u32,
     ) -> Result<Option<Vec<u32>>, Memory> {
@@ -95,7 +100,7 @@ impl Attempts {
     }
 
     /// All calls, to be lent while the steps are counted.
-    fn all_calls(&self) -> Result<Vec<Asked>, Memory> {
+    fn all_calls(&self) -> Result<Vec<Orderable>, Memory> {
         Ok(Vec::from_slice(self.alloc, &self.calls)?)
     }
 
@@ -278,7 +283,7 @@ impl Attempts {
 fn push_points(
     points: &mut Vec<Point>,
     own: &[u32],
-    calls: &[Asked],
+    calls: &[Orderable],
     order: &[u32],
 ) -> Result<(), Memory> {
     let mut event = 0;

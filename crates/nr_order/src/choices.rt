@@ -1,6 +1,6 @@
 //! The calls that may come next where a reply needs one.
 
-use crate::asked::Asked;
+use crate::calls::Orderable;
 use crate::frontier::Frontier;
 use std::alloc::Global;
 use vs_types::Memory;
@@ -18,7 +18,7 @@ pub(crate) struct Candidate {
 
 /// Whether two calls ask the same and are answered the same, so that the one that is answered first can go first. Where updates are counted
 /// for the dumps, only calls of one replica can change places, or those that aren't answered.
-fn are_alike(first: &Asked, second: &Asked, is_numbered: bool) -> bool {
+fn are_alike(first: &Orderable, second: &Orderable, is_numbered: bool) -> bool {
     if is_numbered && first.replica != second.replica && first.answer.is_some() {
         return false;
     }
@@ -30,7 +30,7 @@ fn is_listed(
     frontier: &Frontier<'_>,
     listed: &mut Vec<Candidate>,
     candidate: Candidate,
-    call: &Asked,
+    call: &Orderable,
 ) -> bool {
     let is_numbered = frontier.is_numbered();
     for row in listed.iter_mut() {

@@ -1,6 +1,6 @@
 //! What the dumps ask of an order.
 
-use crate::asked::Asked;
+use crate::calls::Orderable;
 use crate::moving::hash_of_pages;
 use nr_trace::Trace;
 use std::alloc::Global;
@@ -67,7 +67,7 @@ impl Demands {
     }
 
     /// Whether a call that is answered behind so many updates comes before the dump of its replica.
-    pub(crate) fn allow(&self, call: &Asked, updates: u32) -> bool {
+    pub(crate) fn allow(&self, call: &Orderable, updates: u32) -> bool {
         match (self.of_replica(call.replica), call.answer) {
             (Some(demand), Some(_)) => updates <= demand.applied,
             _ => true,

@@ -7,8 +7,8 @@ ghost use Rattle.nr_audit.specs.Verdict.{IsVerdictOn};
 ghost use Rattle.nr_order.specs.Finding.{IsFindingOf, IsFindingOn, IsOrderedOf, NeedsNoOrder};
 ghost use Rattle.nr_order.specs.inside.ByThemselves.{IsFoundAlone, IsFoundAmong, IsOfEvents, IsOfSomeTables, IsOfTables};
 
-use crate::asked::list_calls;
 use crate::attempts::Attempts;
+use crate::calls::list_calls;
 use crate::demands::Demands;
 use crate::judging::Ordered;
 use nr_audit::{Verdict, fault_at, judge, table_fault};

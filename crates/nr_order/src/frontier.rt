@@ -1,6 +1,6 @@
 //! How far an order has come: the calls that are put, those that are open, and the space.
 
-use crate::asked::Asked;
+use crate::calls::Orderable;
 use crate::demands::Demands;
 use crate::moving::{Effect, MovingSpace, mix};
 use crate::stays::{Stays, address_of};
@@ -30,7 +30,7 @@ pub(crate) struct Aims {
 /// How far an order of some calls has come.
 #[derive(Drop)]
 pub(crate) struct Frontier<'a> {
-    calls: &'a [Asked],
+    calls: &'a [Orderable],
     aims: Aims,
     space: MovingSpace,
     /// The calls that are made and not put.
@@ -57,7 +57,7 @@ fn is_in(page: Page, address: u64) -> bool {
 }
 
 /// False where an effect can't make a call right: it changes no address that the call is about. Each page lies in one GiB.
-fn may_matter(effect: Effect, call: &Asked) -> bool {
+fn may_matter(effect: Effect, call: &Orderable) -> bool {
     let address = address_of(call.request.query());
     match effect {
         Effect::Nothing => false,
@@ -75,7 +75,7 @@ fn may_matter(effect: Effect, call: &Asked) -> bool {
 impl<'a> Frontier<'a> {
     pub(crate) fn new(
         alloc: Global,
-        calls: &'a [Asked],
+        calls: &'a [Orderable],
         space: MovingSpace,
         aims: Aims,
         steps: u32,
@@ -97,7 +97,7 @@ impl<'a> Frontier<'a> {
         })
     }
 
-    pub(crate) fn call(&self, index: u32) -> Option<Asked> {
+    pub(crate) fn call(&self, index: u32) -> Option<Orderable> {
         self.calls.get(index as usize).copied()
     }
 
@@ -144,7 +144,7 @@ impl<'a> Frontier<'a> {
     }
 
     /// Whether the call may be put wherever it is right: whatever is right behind it is so without it.
-    pub(crate) fn is_free(&self, call: &Asked) -> bool {
+    pub(crate) fn is_free(&self, call: &Orderable) -> bool {
         if self.aims.is_numbered {
             !call.is_update()
         } else {
@@ -190,7 +190,7 @@ impl<'a> Frontier<'a> {
     }
 
     /// Notes that an open call is put, which had this effect. False where no order goes on so.
-    fn note(&mut self, index: u32, call: &Asked, effect: Effect) -> Result<bool, Memory> {
+    fn note(&mut self, index: u32, call: &Orderable, effect: Effect) -> Result<bool, Memory> {
         self.close(index);
         self.mark_put(index, true);
         self.order.push(index)?;
@@ -312,7 +312,7 @@ impl<'a> Frontier<'a> {
     }
 
     /// Whether a call could be the next one, and the other one behind it.
-    pub(crate) fn helps(&mut self, index: u32, other: &Asked) -> Result<bool, Memory> {
+    pub(crate) fn helps(&mut self, index: u32, other: &Orderable) -> Result<bool, Memory> {
         let Some(call) = self.call(index) else {
             return Ok(false);
         };
@@ -332,7 +332,7 @@ impl<'a> Frontier<'a> {
     }
 
     /// Whether a call could be the next one.
-    pub(crate) fn is_right(&mut self, call: &Asked) -> Result<bool, Memory> {
+    pub(crate) fn is_right(&mut self, call: &Orderable) -> Result<bool, Memory> {
         match self.space.make(call.request, call.answer)? {
             Some(effect) => {
                 self.space.take_back(effect)?;

@@ -2,8 +2,8 @@
 //! its log. One is looked for.
 #![tactic(auto)]
 
-mod asked;
 mod attempts;
+mod calls;
 mod choices;
 mod copies;
 mod demands;

@@ -1,6 +1,6 @@
 //! The events of some calls, one after another.
 
-use crate::asked::{Asked, NEVER, short};
+use crate::calls::{NEVER, Orderable, short};
 use std::alloc::Global;
 use vs_types::Memory;
 
@@ -14,7 +14,7 @@ pub(crate) struct Moment {
 }
 
 /// Those of some calls, by rising event. Allocates memory for them.
-pub(crate) fn list_moments(alloc: Global, calls: &[Asked]) -> Result<Vec<Moment>, Memory> {
+pub(crate) fn list_moments(alloc: Global, calls: &[Orderable]) -> Result<Vec<Moment>, Memory> {
     let mut moments = Vec::new(alloc);
     for (index, call) in calls.iter().enumerate() {
         moments.push(Moment {

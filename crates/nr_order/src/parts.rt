@@ -3,7 +3,7 @@
 //! The addresses of a page are aligned to its size, so of two stretches that maps ask for one lies in the other, or they are apart. A part
 //! is a stretch that lies in no other, with the calls that touch it. Where there are no large maps, each page is a part.
 
-use crate::asked::{Asked, short};
+use crate::calls::{Orderable, short};
 use crate::stays::address_of;
 use std::alloc::Global;
 use vs_types::{Action, Answer, Depth, Memory, Page, Query};
@@ -38,7 +38,7 @@ pub(crate) struct Parts {
     pub(crate) bounds: Vec<Bounds>,
 }
 
-fn page_asked(call: &Asked) -> Option<Page> {
+fn page_asked(call: &Orderable) -> Option<Page> {
     match call.request.query() {
         Query::Update(op) => match op.action() {
             Action::Map(page) => Some(page),
@@ -48,7 +48,7 @@ fn page_asked(call: &Asked) -> Option<Page> {
     }
 }
 
-fn stretch_of(call: &Asked) -> Stretch {
+fn stretch_of(call: &Orderable) -> Stretch {
     let address = address_of(call.request.query());
     let first = address - address % 4096;
     let bytes = match page_asked(call) {
@@ -62,7 +62,7 @@ fn stretch_of(call: &Asked) -> Stretch {
 }
 
 /// The stretches that lie in no other, by rising address. Allocates memory for those of all calls.
-fn outer_of(alloc: Global, calls: &[Asked]) -> Result<Vec<Bounds>, Memory> {
+fn outer_of(alloc: Global, calls: &[Orderable]) -> Result<Vec<Bounds>, Memory> {
     let mut stretches = Vec::with_capacity(alloc, calls.len())?;
     for call in calls {
         stretches.push(stretch_of(call))?;
@@ -85,7 +85,7 @@ fn outer_of(alloc: Global, calls: &[Asked]) -> Result<Vec<Bounds>, Memory> {
 }
 
 /// The parts of some calls. Allocates memory for the members.
-pub(crate) fn list_parts(alloc: Global, calls: &[Asked]) -> Result<Parts, Memory> {
+pub(crate) fn list_parts(alloc: Global, calls: &[Orderable]) -> Result<Parts, Memory> {
     let bounds = outer_of(alloc, calls)?;
     let mut members = Vec::with_capacity(alloc, calls.len())?;
     for (index, call) in calls.iter().enumerate() {
@@ -120,7 +120,7 @@ struct Table {
 }
 
 /// The tables that the maps could need at once, whatever their order. Allocates memory for those of each map.
-fn most_tables(alloc: Global, calls: &[Asked], depth: Depth) -> Result<usize, Memory> {
+fn most_tables(alloc: Global, calls: &[Orderable], depth: Depth) -> Result<usize, Memory> {
     let mut tables = Vec::new(alloc);
     for call in calls {
         let Some(page) = page_asked(call) else {
@@ -148,7 +148,7 @@ fn most_tables(alloc: Global, calls: &[Asked], depth: Depth) -> Result<usize, Me
 /// Whether the number of tables may matter, so that no part can be ordered by itself.
 pub(crate) fn are_coupled(
     alloc: Global,
-    calls: &[Asked],
+    calls: &[Orderable],
     depth: Depth,
     tables: u16,
 ) -> Result<bool, Memory> {

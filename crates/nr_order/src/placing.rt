@@ -84,7 +84,7 @@ fn placed(event: Recorded, counts: &[u32]) -> Option<Recorded>
             let at = *counts.get(call as usize)?;
             Some(Recorded::of(Event::Reply { call, at, answer }))
         }
-        Event::Call { .. } | Event::Touch { .. } | Event::Release { .. } => Some(event),
+        Event::Call { .. } => Some(event),
     }
 }
 

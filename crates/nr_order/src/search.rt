@@ -9,7 +9,7 @@
 //!
 //! Unanswered updates stay open to the end, and may be left out.
 
-use crate::asked::Asked;
+use crate::calls::Orderable;
 use crate::choices::{list_candidates, sort_candidates};
 use crate::frontier::{Aims, Frontier};
 use crate::moments::{Moment, list_moments};
@@ -189,7 +189,7 @@ pub(crate) struct Searched {
 /// and for each step that goes on.
 pub(crate) fn search(
     alloc: Global,
-    calls: &[Asked],
+    calls: &[Orderable],
     space: MovingSpace,
     aims: Aims,
     steps: u32,

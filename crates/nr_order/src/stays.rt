@@ -1,6 +1,6 @@
 //! Which pages may still come, and which still have to be found.
 
-use crate::asked::{Asked, NEVER, short};
+use crate::calls::{NEVER, Orderable, short};
 use std::alloc::Global;
 use std::collections::BTreeMap;
 use vs_types::{Action, Answer, Memory, Query, Size};
@@ -46,7 +46,7 @@ fn found_at(address: u64, size: Size, phys: u64) -> PageKey {
 }
 
 /// The page that a call may map.
-fn given_by(call: &Asked) -> Option<PageKey> {
+fn given_by(call: &Orderable) -> Option<PageKey> {
     let Query::Update(op) = call.request.query() else {
         return None;
     };
@@ -64,7 +64,7 @@ fn given_by(call: &Asked) -> Option<PageKey> {
 }
 
 /// The page that a call finds.
-fn wanted_by(call: &Asked) -> Option<PageKey> {
+fn wanted_by(call: &Orderable) -> Option<PageKey> {
     match call.answer? {
         Answer::Removed(phys, size, _) | Answer::Mapped(phys, size, _) => {
             Some(found_at(address_of(call.request.query()), size, phys))
@@ -108,7 +108,7 @@ fn row_at(rows: &Vec<u32>, call: u32) -> u32 {
 
 impl Stays {
     /// Of calls of which none is put. Allocates memory for the pages.
-    pub(crate) fn of(alloc: Global, calls: &[Asked]) -> Result<Stays, Memory> {
+    pub(crate) fn of(alloc: Global, calls: &[Orderable]) -> Result<Stays, Memory> {
         let mut rows = BTreeMap::new(alloc);
         let mut gives = Vec::with_capacity(alloc, calls.len())?;
         let mut wants = Vec::with_capacity(alloc, calls.len())?;

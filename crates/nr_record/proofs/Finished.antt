@@ -16,7 +16,8 @@ use Rattle.vs_types.specs.Config.{Layout}
 use Rattle.nr_trace.proofs.LawsOfLists.{All-unmap}
 use Rattle.nr_trace.specs.Recording.{IsEvent}
 use Rattle.nr_trace.specs.declared.event.Event.{Event}
-use Rattle.nr_trace.specs.declared.event.Event.TheVariants.{Call, Release, Reply, Touch}
+use Rattle.nr_trace.specs.declared.event.Event.TheVariants.{Call, Reply}
+use Rattle.nr_trace.specs.declared.event.Asked.TheVariants as askeds
 use Rattle.nr_trace.specs.declared.version.Version.TheVariants.{V2}
 use Rattle.nr_record.specs.Events.{AreEventsOf, HasNotes, caller, events_of, is_of, thread_of}
 use Rattle.nr_record.specs.Pen.{AreAllPens, ClockId, PenState, call_by, stamped, stamps_of}
@@ -180,9 +181,8 @@ sieve P k (e ∷ es) (x ∷ xs) rise fits only =
 
 own_is : (layout : Layout) (thread : ℕ) (events : List Event) (made : List Stamped) (event : Event) → IsOwn layout thread made event
     → All (λ item. slice_get events item.stamp ≡ Some item.event) made → thread_of events event ≡ Some thread
-own_is layout thread events made (Call replica who request) own has = ap (λ (n : ℕ). Some n) own.1
-own_is layout thread events made (Touch replica who address mode access) own has = absurd own
-own_is layout thread events made (Release replica who size phys) own has = absurd own
+own_is layout thread events made (Call replica who (askeds.Request request)) own has = ap (λ (n : ℕ). Some n) own.1
+own_is layout thread events made (Call replica who asked) own has = absurd own
 own_is layout thread events made (Reply call at answer) own has =
     ap (λ o. option_and_then caller o)
     (All-contains (λ (item : Stamped). slice_get events item.stamp ≡ Some item.event) made (stamped call (call_by layout thread own.0)) has own.1)

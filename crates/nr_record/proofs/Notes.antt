@@ -14,6 +14,7 @@ use Rattle.nr_trace.proofs.LawsOfLists.{All-unmap}
 use Rattle.nr_trace.specs.Recording.{IsEvent}
 use Rattle.nr_trace.specs.declared.event.Event.{Event}
 use Rattle.nr_trace.specs.declared.event.Event.TheVariants.{Call, Reply}
+use Rattle.nr_trace.specs.declared.event.Asked.TheVariants as askeds
 use Rattle.nr_trace.specs.declared.version.Version.TheVariants.{V2}
 use Rattle.nr_record.specs.Pen.{ClockId, PenState, call_by, calls_in, is_call, new_pen, new_pens, stamped}
 use Rattle.nr_record.specs.Rule.{HasDrawn}
@@ -68,12 +69,12 @@ held_more view after replica thread stamp room room' waiting waiting' made event
 -- for a call of its thread
 pub held_call : (view after : View) (replica thread stamp room room' : ℕ) (made : List Stamped) (request : Query)
     → IsHeld view replica thread None room made → HasDrawn view stamp after → calls_in made < view.quota → IsQuery view.plan.config.depth request
-    → room ≤ room' → IsHeld after replica thread (Some stamp) room' (made ++ stamped stamp (Call replica thread request) ∷ [])
+    → room ≤ room' → IsHeld after replica thread (Some stamp) room' (made ++ stamped stamp (Call replica thread (askeds.Request request)) ∷ [])
 held_call view after replica thread stamp room room' made request is drawn left fits more =
-    let item : Stamped = stamped stamp (Call replica thread request) in
+    let item : Stamped = stamped stamp (Call replica thread (askeds.Request request)) in
     held_more view after replica thread stamp room room' None (Some stamp) made item.event is drawn (is.is_replica, is.is_thread, fits, tt)
     (is.replica_is, refl)
-    (request, subst (λ (n : ℕ). Contains (made ++ item ∷ []) (stamped stamp (Call n thread request))) is.replica_is (Contains-push made item))
+    (request, subst (λ (n : ℕ). Contains (made ++ item ∷ []) (stamped stamp (Call n thread (askeds.Request request)))) is.replica_is (Contains-push made item))
     refl (omega (arith, left)) more
 
 -- and for the reply to its call

@@ -9,7 +9,8 @@ use Rattle.vs_walk.specs.Dump.{Image}
 use Rattle.nr_trace.specs.Parts.{HasFrames, IsFirstOut, IsPartsFault, LacksFrames}
 use Rattle.nr_trace.specs.Recording.{Recording, IsEvent}
 use Rattle.nr_trace.specs.declared.event.Event.{Event}
-use Rattle.nr_trace.specs.declared.event.Event.TheVariants.{Call, Release, Reply, Touch}
+use Rattle.nr_trace.specs.declared.event.Event.TheVariants.{Call, Reply}
+use Rattle.nr_trace.specs.declared.event.Asked.TheVariants as askeds
 use Rattle.nr_trace.specs.declared.fault.Format.{Format}
 use Rattle.nr_trace.specs.declared.fault.Format.TheVariants.{Truncated, BadMagic, BadVersion, BadCount, BadChain, BadStart, BadEvent, BadFrame, Trailing}
 use Rattle.nr_trace.specs.declared.version.Version.TheVariants.{V2, Segment}
@@ -17,10 +18,9 @@ use Rattle.nr_trace.proofs.Images.{good_counts}
 
 -- what version 2 knows, a segment knows
 pub in_segment : (layout : Layout) (event : Event) → IsEvent V2 layout event → IsEvent Segment layout event
-in_segment layout (Call replica thread request) is = (is.0, is.1, is.2, tt)
+in_segment layout (Call replica thread (askeds.Request request)) is = (is.0, is.1, is.2, tt)
+in_segment layout (Call replica thread asked) is = absurd is.3
 in_segment layout (Reply call at answer) is = (is.0, is.1, is.2, tt)
-in_segment layout (Touch replica thread address mode access) is = absurd is.3
-in_segment layout (Release replica thread size phys) is = absurd is.3
 
 pub all_in_segment : (layout : Layout) (events : List Event) → All (IsEvent V2 layout) events → All (IsEvent Segment layout) events
 all_in_segment layout events all = λ k d lt. in_segment layout (get_or events k d) (all k d lt)

@@ -2,7 +2,7 @@
 use Rattle.std.specs.Prelude.{◌≡◌, ℕ, ◌==◌, List, All, Bool, false, Option, None, Some, filter, flat_map, length, map, option_and_then, slice_get}
 use Rattle.std.specs.Option.{option_map_or}
 use Rattle.nr_trace.specs.declared.event.Event.{Event}
-use Rattle.nr_trace.specs.declared.event.Event.TheVariants.{Call, Release, Reply, Touch}
+use Rattle.nr_trace.specs.declared.event.Event.TheVariants.{Call, Reply}
 use Rattle.nr_record.specs.Pen.{PenState, stamps_of}
 use Rattle.nr_record.specs.Stamps.{AreBelow, Rise}
 
@@ -12,16 +12,12 @@ HasNotes events pen = All (λ item. slice_get events item.stamp ≡ Some item.ev
 
 -- the maker of a call
 abbrev pub caller : Event → Option ℕ
-caller (Call replica thread request) = Some thread
-caller (Touch replica thread address mode access) = Some thread
-caller (Release replica thread size phys) = Some thread
-caller (Reply call at answer) = None
+caller (Call replica thread asked) = Some thread
+caller event = None
 
 -- the thread of an event: the one that makes the call, or that made the call which is answered
 abbrev pub thread_of : List Event → Event → Option ℕ
-thread_of events (Call replica thread request) = Some thread
-thread_of events (Touch replica thread address mode access) = Some thread
-thread_of events (Release replica thread size phys) = Some thread
+thread_of events (Call replica thread asked) = Some thread
 thread_of events (Reply call at answer) = option_and_then caller (slice_get events call)
 
 -- whether an event is one of the thread

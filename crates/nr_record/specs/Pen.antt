@@ -6,7 +6,8 @@ use Rattle.vs_types.specs.Config.{Layout}
 use Rattle.vs_types.specs.declared.answer.Answer.{Answer}
 use Rattle.vs_types.specs.declared.request.Query.{Query}
 use Rattle.nr_trace.specs.declared.event.Event.{Event}
-use Rattle.nr_trace.specs.declared.event.Event.TheVariants.{Call, Release, Reply, Touch}
+use Rattle.nr_trace.specs.declared.event.Event.TheVariants.{Call, Reply}
+use Rattle.nr_trace.specs.declared.event.Asked.TheVariants as askeds
 use Rattle.nr_record.specs.declared.view.Plan.{Plan}
 use Rattle.nr_record.specs.declared.stamped.Stamped.{Stamped}
 
@@ -38,14 +39,12 @@ stamped stamp event = record { stamp = stamp; event = event }
 
 -- a thread makes a call
 abbrev pub call_by : Layout → ℕ → Query → Event
-call_by layout thread request = Call (home_of layout thread) thread request
+call_by layout thread request = Call (home_of layout thread) thread (askeds.Request request)
 
 -- whether an event is a call, a touch or a release
 abbrev pub is_call : Event → Bool
-is_call (Call replica thread request) = true
-is_call (Touch replica thread address mode access) = true
-is_call (Release replica thread size phys) = true
-is_call (Reply call at answer) = false
+is_call (Call replica thread asked) = true
+is_call event = false
 
 -- how many calls there are among what a pen was given
 abbrev pub calls_in : List Stamped → ℕ

@@ -11,7 +11,7 @@ use crate::clock::Clock;
 use crate::stamped::Stamped;
 use crate::view::View;
 use atomic_table::Seat;
-use nr_trace::{Event, Recorded};
+use nr_trace::{Asked, Event, Recorded};
 use std::alloc::Global;
 use std::marker::Model;
 use vs_types::{Answer, Config, Memory, Request};
@@ -109,7 +109,7 @@ impl Pen {
         let event = Recorded::of(Event::Call {
             replica: self.replica,
             thread: self.thread,
-            request,
+            asked: Asked::Request(request),
         });
         self.waiting = Some(stamp);
         note(&mut self.made, Stamped { stamp, event });

@@ -1,9 +1,10 @@
 -- The calls of a trace are those of the threads whose pens it was made of.
 use Rattle.std.proofs.lemmas.Bool.{false≢true}
 use Rattle.std.proofs.lemmas.Simd.{map-map}
-use Rattle.std.proofs.Common.{◌≡◌, ℕ, zero, suc, ◌+◌, ◌<◌, ◌≤◌, Bool, true, false, List, [], ◌∷◌, All, Contains, length, get_or, map, eqb, eq-eqb, refl, ap, sym}
+use Rattle.std.proofs.Common.{◌≡◌, ℕ, zero, suc, ◌+◌, ◌<◌, ◌≤◌, Bool, true, false, List, []}
+use Rattle.std.proofs.Common.{◌∷◌, All, Contains, length, get_or, map, eqb, eq-eqb, refl, ap, sym}
 use Rattle.std.proofs.Common.{◌∙◌, subst, arith}
-use Rattle.std.specs.Prelude.{Option, None, Some, IsSome, slice_get, option_and_then, take, if◌then◌else◌, option_map}
+use Rattle.std.specs.Prelude.{Option, Some, IsSome, slice_get, option_and_then, take, option_map}
 use Rattle.std.specs.Option.{option_map_or}
 use Rattle.std.proofs.lemmas.List.{get_or-map, length-map}
 use Rattle.std.proofs.lemmas.List.Elements.{All-contains, All-head, All-map, All-tail}
@@ -17,10 +18,10 @@ use Rattle.vs_types.specs.declared.request.Query.TheVariants.{Update}
 use Rattle.nr_ring.specs.LogHistory.{Log, log_after}
 use Rattle.nr_ring.specs.Pass.{Known, TableId}
 use Rattle.nr_trace.proofs.LawsOfLists.{slice_get-unmap}
-use Rattle.nr_trace.specs.Calls.{Invocation, Response, read_address, call_of, made_by, operation_in, reply_to}
+use Rattle.nr_trace.specs.Calls.{Invocation, Response, read_address, request_in, call_of, made_by, operation_in, reply_to}
 use Rattle.nr_trace.specs.Recording.{Recording}
 use Rattle.nr_trace.specs.declared.event.Event.{Event}
-use Rattle.nr_trace.specs.declared.event.Event.TheVariants.{Call, Touch, Release}
+use Rattle.nr_trace.specs.declared.event.Event.TheVariants.{Call}
 use Rattle.nr_record.specs.Events.{AreEventsOf, HasNotes, caller, events_of}
 use Rattle.nr_record.specs.Pen.{ClockId, PenState, call_by, stamps_of}
 use Rattle.nr_record.specs.Stamps.{Rise}
@@ -68,18 +69,10 @@ record IsCallAt (events : List Event) (thread i : ℕ) : Type 0 where
   made : caller event ≡ Some thread
 
 called_by : (events : List Event) (thread i : ℕ) → makes thread events i ≡ true → (o : Option Event) → slice_get events i ≡ o → IsCallAt events thread i
-called_by events thread i holds (Some (Call replica who request)) at =
+called_by events thread i holds (Some (Call replica who asked)) at =
     let test : eqb who thread ≡ true = sym (ap (tested thread) at) ∙ holds in
     let same : who ≡ thread = (Decides-eqb who thread).0 test in
-    record { event = Call replica who request; at = at; made = ap (λ (t : ℕ). Some t) same }
-called_by events thread i holds (Some (Touch replica who address mode access)) at =
-    let test : eqb who thread ≡ true = sym (ap (tested thread) at) ∙ holds in
-    let same : who ≡ thread = (Decides-eqb who thread).0 test in
-    record { event = Touch replica who address mode access; at = at; made = ap (λ (t : ℕ). Some t) same }
-called_by events thread i holds (Some (Release replica who size phys)) at =
-    let test : eqb who thread ≡ true = sym (ap (tested thread) at) ∙ holds in
-    let same : who ≡ thread = (Decides-eqb who thread).0 test in
-    record { event = Release replica who size phys; at = at; made = ap (λ (t : ℕ). Some t) same }
+    record { event = Call replica who asked; at = at; made = ap (λ (t : ℕ). Some t) same }
 called_by events thread i holds _ at = absurd (false≢true (sym (ap (tested thread) at) ∙ holds))
 
 called : (events : List Event) (thread i : ℕ) → makes thread events i ≡ true → IsCallAt events thread i
@@ -267,14 +260,14 @@ have_seen_from clock of scripts workers trace all are layout thread pass at_pass
       updates = λ call made action reply is_made who op rep.
           let its = known_call clock of scripts workers trace all are thread worker there.1 call made is_made who in
           let op' : operation_in its.request ≡ Some action =
-          sym (ap (λ o. option_and_then (λ (m : Invocation). operation_in m.request) (option_and_then made_by o)) its.asked) ∙ op in
+          sym (ap (λ o. option_and_then operation_in (option_and_then (λ (m : Invocation). request_in m.asked) (option_and_then made_by o))) its.asked) ∙ op in
           subst (λ (l : Log). slice_get l.entries (of.from + reply.at) ≡ Some (record { call = call; op = action })) here
           (stands clock.layout of.from (log_after clock.layout.replicas worker.pass.view.seen) call its.request its.said its.is_true action reply op'
           (sym its.replied ∙ rep));
       reads = λ call made reply is_made who read rep.
           let its = known_call clock of scripts workers trace all are thread worker there.1 call made is_made who in
           let read' : IsSome (read_address its.request) =
-          subst (λ o. IsSome (option_and_then (λ (m : Invocation). if m.touch then None else read_address m.request) (option_and_then made_by o))) its.asked
+          subst (λ o. IsSome (option_and_then read_address (option_and_then (λ (m : Invocation). request_in m.asked) (option_and_then made_by o)))) its.asked
           read in
           subst (λ (l : Log). of.from + reply.at ≤ length l.entries) here
           (known clock.layout of.from (log_after clock.layout.replicas worker.pass.view.seen) call its.request its.said its.is_true reply read'

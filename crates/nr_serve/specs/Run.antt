@@ -5,6 +5,7 @@ use Rattle.vs_types.specs.Config.{Layout}
 use Rattle.vs_types.specs.declared.op.Action.{Action}
 use Rattle.vs_types.specs.declared.request.Query.{Query}
 use Rattle.nr_audit.specs.Headline.{AreRightWith, IsSpelledWith}
+use Rattle.nr_trace.specs.declared.event.Asked.TheVariants as askeds
 use Rattle.nr_trace.specs.Calls.{Invocation, IsRead, Response, call_of, operation_of, reply_to}
 use Rattle.nr_trace.specs.Faults.{IsFirstOf}
 use Rattle.nr_trace.specs.Laws.{IsFaultless}
@@ -27,7 +28,7 @@ calls_of trace thread = filter (λ call. option_map_or (λ made. made.thread == 
 
 -- a thread asks something, at its replica
 abbrev pub asked_by : Layout → ℕ → Query → Invocation
-asked_by layout thread request = record { replica = home_of layout thread; thread = thread; request = request; touch = false }
+asked_by layout thread request = record { replica = home_of layout thread; thread = thread; asked = askeds.Request request }
 
 -- what came of a call: its reply's answer, and where it was reached; or it has none
 abbrev pub said_of : Recording → ℕ → Said

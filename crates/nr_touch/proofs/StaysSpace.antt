@@ -11,23 +11,25 @@ use Rattle.vs_types.specs.declared.op.Action.{Action}
 use Rattle.vs_types.specs.declared.request.Query.TheVariants.{Update}
 use Rattle.vs_types.proofs.Steps.{step_space}
 use Rattle.nr_trace.specs.Recording.{Recording, IsEvent, IsRecording}
-use Rattle.nr_trace.specs.Calls.{Invocation, made_by, operation_in, operation_of}
+use Rattle.nr_trace.specs.Calls.{Invocation, made_by, request_in, operation_in, operation_of}
 use Rattle.nr_trace.specs.Orders.{operations, space_from}
 use Rattle.nr_trace.specs.declared.event.Event.{Event}
 use Rattle.nr_trace.specs.declared.event.Event.TheVariants.{Call}
+use Rattle.nr_trace.specs.declared.event.Asked.TheVariants.{Request}
 use Rattle.nr_trace.specs.declared.version.Version.{Version}
 
 asked_fits : (version : Version) (layout : Layout) (event : Event) (action : Action) → IsEvent version layout event
-    → option_and_then (λ (made : Invocation). operation_in made.request) (made_by event) ≡ Some action → IsAction layout.depth action
-asked_fits version layout (Call replica thread (Update own)) action is e = subst (IsAction layout.depth) (same_Some own action e) is.2
+    → option_and_then operation_in (option_and_then (λ (made : Invocation). request_in made.asked) (made_by event)) ≡ Some action → IsAction layout.depth action
+asked_fits version layout (Call replica thread (Request (Update own))) action is e = subst (IsAction layout.depth) (same_Some own action e) is.2
 asked_fits version layout _ action is e = absurd (cc)
 
 module _ (trace : Recording) (in_range : IsRecording trace) where
   pub update_fits : (call : ℕ) (action : Action) → operation_of trace call ≡ Some action → IsAction trace.layout.depth action
   update_fits call action is = by_event (slice_get trace.events call) refl where
     told : (event : Option Event) → slice_get trace.events call ≡ event
-        → option_and_then (λ (made : Invocation). operation_in made.request) (option_and_then made_by event) ≡ Some action
-    told event at = sym (ap (λ o. option_and_then (λ (made : Invocation). operation_in made.request) (option_and_then made_by o)) at) ∙ is
+        → option_and_then operation_in (option_and_then (λ (made : Invocation). request_in made.asked) (option_and_then made_by event)) ≡ Some action
+    told event at =
+        sym (ap (λ o. option_and_then operation_in (option_and_then (λ (made : Invocation). request_in made.asked) (option_and_then made_by o))) at) ∙ is
 
     by_event : (event : Option Event) → slice_get trace.events call ≡ event → IsAction trace.layout.depth action
     by_event None at = absurd (let none = told None at in cc)

@@ -12,8 +12,10 @@ use Rattle.vs_types.specs.Space.{Space}
 use Rattle.vs_types.specs.declared.page.Size.{Size}
 use Rattle.vs_types.specs.declared.page.Size.TheVariants.{K4, M2, G1}
 use Rattle.nr_trace.specs.Recording.{Recording}
+use Rattle.nr_trace.specs.Calls.{Invocation, made_by}
 use Rattle.nr_trace.specs.Laws.{HasCleanLog}
 use Rattle.nr_trace.specs.Orders.{below}
+use Rattle.nr_trace.specs.declared.event.Event.{Event}
 use Rattle.nr_trace.proofs.LawsOfCalls.{call_within, placed_is_update, some_or_none, the_some, update_is_call}
 use Rattle.nr_touch.specs.Beside.{are_open_at_once, changes_look, is_beside, is_open_beside, is_over, meets_update, touched, touched_in}
 use Rattle.nr_touch.specs.Replies.{AreReplies}
@@ -77,7 +79,9 @@ module _ (changes : List PlacedChange) (numbered : (c : PlacedChange) → Contai
 pub touch_within : (trace : Recording) (call address : ℕ) → touched trace call ≡ Some address → call < length trace.events
 touch_within trace call address is = elim (some_or_none (slice_get trace.events call)) [
   | inl some ↦ (let (event, at) = the_some (slice_get trace.events call) some in slice_get_within trace.events call event at)
-  | inr none ↦ absurd (let nothing = ap (option_and_then touched_in) none in let twice = sym nothing ∙ is in cc)
+  | inr none ↦ absurd (
+      let nothing = ap (λ (o : Option Event). option_and_then (λ (made : Invocation). touched_in made.asked) (option_and_then made_by o)) none in
+      let twice = sym nothing ∙ is in cc)
 ]
 
 module _ (start : Space) (trace : Recording) (clean : HasCleanLog trace) (changes : List PlacedChange) (are : AreChanges start trace changes)

@@ -1,5 +1,5 @@
 -- How many touches were open while an update of their page was.
-use Rattle.std.specs.Prelude.{ℕ, ◌+◌, ◌==◌, ◌&&◌, not, Bool, true, false, length, take, slice_get, slice_index, count_by, Option, Some, None, option_and_then}
+use Rattle.std.specs.Prelude.{ℕ, ◌+◌, ◌==◌, ◌&&◌, not, Bool, true, false, length, take, slice_index, count_by, Option, Some, None, option_and_then}
 use Rattle.std.specs.List.{list_any}
 use Rattle.std.specs.Option.{option_eq, option_map_or}
 use Rattle.vs_types.specs.Page.{level_of}
@@ -7,17 +7,18 @@ use Rattle.vs_types.specs.Space.{Space}
 use Rattle.vs_types.specs.declared.page.Page.{Page}
 use Rattle.vs_types.specs.declared.page.Rights.{Rights}
 use Rattle.nr_trace.specs.Recording.{Recording}
+use Rattle.nr_trace.specs.Calls.{call_of}
 use Rattle.nr_trace.specs.Orders.{below}
 use Rattle.nr_trace.specs.declared.event.Event.{Event}
-use Rattle.nr_trace.specs.declared.event.Event.TheVariants.{Call, Release, Reply, Touch}
+use Rattle.nr_trace.specs.declared.event.Event.TheVariants.{Reply}
+use Rattle.nr_trace.specs.declared.event.Asked.{Asked}
+use Rattle.nr_trace.specs.declared.event.Asked.TheVariants.{Touch}
 use Rattle.nr_touch.specs.Touches.{page_after}
 
 -- whether an event is a reply to the call
 abbrev pub is_reply_to : ℕ → Event → Bool
-is_reply_to call (Call replica thread request) = false
-is_reply_to call (Touch replica thread address mode access) = false
-is_reply_to call (Release replica thread size phys) = false
 is_reply_to call (Reply other at answer) = other == call
+is_reply_to call event = false
 
 -- whether a reply to the call comes before the event
 abbrev pub is_over : Recording → ℕ → ℕ → Bool
@@ -28,15 +29,13 @@ abbrev pub are_open_at_once : Recording → ℕ → ℕ → Bool
 are_open_at_once trace call other = not (is_over trace call other) && not (is_over trace other call)
 
 -- the address of a touch
-abbrev pub touched_in : Event → Option ℕ
-touched_in (Call replica thread request) = None
-touched_in (Touch replica thread address mode access) = Some address
-touched_in (Release replica thread size phys) = None
-touched_in (Reply call at answer) = None
+abbrev pub touched_in : Asked → Option ℕ
+touched_in (Touch address mode access) = Some address
+touched_in asked = None
 
 -- the address of the call of this number, if it is a touch
 abbrev pub touched : Recording → ℕ → Option ℕ
-touched trace call = option_and_then touched_in (slice_get trace.events call)
+touched trace call = option_and_then (λ made. touched_in made.asked) (call_of trace call)
 
 -- ---- how an address looks
 

@@ -5,21 +5,22 @@ use Rattle.std.specs.Int.{w8, w16, w32, w64, to_be_bytes, from_be_bytes}
 use Rattle.std.proofs.lemmas.Bool.{ne_eqb}
 use Rattle.std.proofs.lemmas.Nat.{from_be_bytes-to_be_bytes_2, from_be_bytes-to_be_bytes_4, from_be_bytes-to_be_bytes_8}
 use Rattle.vs_types.specs.Config.{Layout}
+use Rattle.vs_types.specs.declared.depth.Depth.{Depth}
 use Rattle.vs_types.specs.Fields.{request_fields}
 use Rattle.vs_types.specs.declared.page.Size.{Size}
-use Rattle.vs_types.specs.declared.access.Mode.{Mode}
-use Rattle.vs_types.specs.declared.access.Access as accesses
 use Rattle.vs_types.specs.declared.request.Query.{Query}
 use Rattle.vs_types.specs.declared.request.Query.TheVariants.{Access}
 use Rattle.vs_types.specs.declared.fields.RequestFields.{RequestFields}
 use Rattle.vs_types.specs.declared.answer.Answer.{Answer}
 use Rattle.vs_types.proofs.LogWords.{size_code_low}
-use Rattle.nr_trace.specs.Recording.{IsEvent}
-use Rattle.nr_trace.specs.Spelling.{answer_fields, release_fields, touch_fields, event}
+use Rattle.nr_trace.specs.Recording.{IsAskable, IsEvent}
+use Rattle.nr_trace.specs.Spelling.{answer_fields, asked_fields, event}
 use Rattle.nr_trace.specs.declared.fields.AnswerFields.{AnswerFields}
 use Rattle.nr_trace.specs.declared.version.Version.{Version}
 use Rattle.nr_trace.specs.declared.event.Event.{Event}
-use Rattle.nr_trace.specs.declared.event.Event.TheVariants.{Call, Release, Reply, Touch}
+use Rattle.nr_trace.specs.declared.event.Event.TheVariants.{Call, Reply}
+use Rattle.nr_trace.specs.declared.event.Asked.{Asked}
+use Rattle.nr_trace.specs.declared.event.Asked.TheVariants.{Request, Release, Touch}
 use Rattle.nr_trace.proofs.LawsOfUnits.{ToldApart, IsWide, apart_by, length-event, request_from, request_back, request_fits, touch_back, answer_from}
 use Rattle.nr_trace.proofs.LawsOfUnits.{answer_back, answer_fits, size_back, size_from}
 
@@ -99,13 +100,31 @@ one_reply bytes call at unused c a fields others rest parts fits also spelled =
     sym (reply_back fields call at unused rest fits) ∙ ap (λ (l : List ℕ). answer_at (1 ∷ l)) (sym parts) ∙ ap answer_at spelled
     ∙ reply_back others c a 0 [] also
 
-pub call_fits : (version : Version) (layout : Layout) (replica thread : ℕ) (request : Query) → IsWide layout
-    → IsEvent version layout (Call replica thread request)
-    → CallFits replica thread (request_fields request) 0
-call_fits version layout replica thread request l h =
+-- the fields of what a call asks fit their bytes
+record AskedFits (fields : RequestFields) : Type 0 where
+  pub kind : fields.kind < 7
+  pub size : fields.size < 3
+  pub rights : fields.rights < 8
+  pub address : fields.address < 2 ^ 64
+  pub physical : fields.physical < 2 ^ 64
+
+asked_fits : (depth : Depth) (asked : Asked) → IsAskable depth asked → AskedFits (asked_fields asked)
+asked_fits depth (Request request) is =
+    let fits = request_fits depth request is in
+    record { kind = omega (arith, fits.kind); size = fits.size; rights = fits.rights; address = fits.address; physical = fits.physical }
+asked_fits depth (Touch address mode access) is =
+    let fits = request_fits depth (Access address mode access) is in
+    record { kind = omega arith; size = fits.size; rights = fits.rights; address = fits.address; physical = fits.physical }
+asked_fits depth (Release size phys) is =
+    let low = size_code_low size in
+    record { kind = omega arith; size = omega (arith, low); rights = omega arith; address = omega arith; physical = omega (arith, is.1) }
+
+pub call_fits : (version : Version) (layout : Layout) (replica thread : ℕ) (what : Asked) → IsWide layout → IsEvent version layout (Call replica thread what)
+    → CallFits replica thread (asked_fields what) 0
+call_fits version layout replica thread what l h =
     let r : replica < layout.replicas = h.0 in
     let t : thread < layout.threads = h.1 in
-    let fits = request_fits layout.depth request h.2 in
+    let fits = asked_fits layout.depth what h.2 in
     record {
       replica_fits = omega (arith, l.few_replicas);
       thread_fits = omega (arith, l.few_threads);
@@ -115,41 +134,6 @@ call_fits version layout replica thread request l h =
       unused_fits = omega arith;
       address = fits.address;
       physical = fits.physical;
-    }
-
-pub touch_fits : (version : Version) (layout : Layout) (replica thread address : ℕ) (mode : Mode) (access : accesses.Access) → IsWide layout
-    → IsEvent version layout (Touch replica thread address mode access) → CallFits replica thread (touch_fields address mode access) 0
-touch_fits version layout replica thread address mode access l h =
-    let r : replica < layout.replicas = h.0 in
-    let t : thread < layout.threads = h.1 in
-    let fits = request_fits layout.depth (Access address mode access) h.2 in
-    record {
-      replica_fits = omega (arith, l.few_replicas);
-      thread_fits = omega (arith, l.few_threads);
-      kind = omega arith;
-      size = omega (arith, fits.size);
-      rights = omega (arith, fits.rights);
-      unused_fits = omega arith;
-      address = fits.address;
-      physical = fits.physical;
-    }
-
-pub release_fits : (version : Version) (layout : Layout) (replica thread : ℕ) (size : Size) (phys : ℕ) → IsWide layout
-    → IsEvent version layout (Release replica thread size phys) → CallFits replica thread (release_fields size phys) 0
-release_fits version layout replica thread size phys l h =
-    let r : replica < layout.replicas = h.0 in
-    let t : thread < layout.threads = h.1 in
-    let memory = h.2 in
-    let low = size_code_low size in
-    record {
-      replica_fits = omega (arith, l.few_replicas);
-      thread_fits = omega (arith, l.few_threads);
-      kind = omega arith;
-      size = omega (arith, low);
-      rights = omega arith;
-      unused_fits = omega arith;
-      address = omega arith;
-      physical = omega (arith, memory.1);
     }
 
 pub reply_fits : (version : Version) (layout : Layout) (call at : ℕ) (answer : Answer) → IsEvent version layout (Reply call at answer)
@@ -167,17 +151,31 @@ reply_fits version layout call at answer h =
     }
 
 -- of kind 5, a touch; of kind 6, a release
-abbrev pub touch_by : ℕ → ℕ → Query → Event
-touch_by replica thread (Access address mode access) = Touch replica thread address mode access
-touch_by replica thread request = Call replica thread request
+abbrev touch_by : Query → Asked
+touch_by (Access address mode access) = Touch address mode access
+touch_by request = Request request
 
-abbrev pub asked_from : ℕ → ℕ → ℕ → RequestFields → Event
-asked_from kind replica thread fields =
-    if kind == 5 then touch_by replica thread (request_from fields)
-    else (if kind == 6 then Release replica thread (size_from fields.size) fields.physical else Call replica thread (request_from fields))
+abbrev asked_from : ℕ → RequestFields → Asked
+asked_from kind fields =
+    if kind == 5 then touch_by (request_from fields)
+    else (if kind == 6 then Release (size_from fields.size) fields.physical else Request (request_from fields))
+
+-- what a call asks is read back from its fields
+asked_back : (depth : Depth) (asked : Asked) → IsAskable depth asked → asked_from (asked_fields asked).kind (asked_fields asked) ≡ asked
+asked_back depth (Request request) is =
+    let fields = request_fields request in
+    let few = (request_fits depth request is).kind in
+    let no_touch : (fields.kind == 5) ≡ false = ne_eqb _ _ (λ e. omega (arith, few, e)) in
+    let no_release : (fields.kind == 6) ≡ false = ne_eqb _ _ (λ e. omega (arith, few, e)) in
+    ap (λ (b : Bool). if b then touch_by (request_from fields)
+    else (if fields.kind == 6 then Release (size_from fields.size) fields.physical else Request (request_from fields))) no_touch
+    ∙ ap (λ (b : Bool). if b then Release (size_from fields.size) fields.physical else Request (request_from fields)) no_release
+    ∙ ap (λ (made : Query). Request made) (request_back request)
+asked_back depth (Touch address mode access) is = ap touch_by (touch_back address mode access)
+asked_back depth (Release size phys) is = ap (λ (s : Size). Release s phys) (size_back size)
 
 abbrev pub event_by : ℕ → List ℕ → Event
-event_by zero bytes = asked_from (get_or bytes 4 0) (get_or bytes 1 0) (from_be_bytes w16 (drop 2 bytes)) (request_at bytes)
+event_by zero bytes = Call (get_or bytes 1 0) (from_be_bytes w16 (drop 2 bytes)) (asked_from (get_or bytes 4 0) (request_at bytes))
 event_by (suc tag) bytes = Reply (from_be_bytes w32 (drop 4 bytes)) (from_be_bytes w32 (drop 8 bytes)) (answer_from (answer_at bytes))
 
 abbrev pub event_from : List ℕ → Event
@@ -185,36 +183,15 @@ event_from bytes = event_by (get_or bytes 0 0) bytes
 
 pub event_back : (version : Version) (layout : Layout) → IsWide layout → (recorded : Event) → IsEvent version layout recorded
     → event_from (event recorded) ≡ recorded
-event_back version layout l (Call r t q) h =
-    let fits = call_fits version layout r t q l h in
-    let fields = request_fields q in
+event_back version layout l (Call r t what) h =
+    let fits = call_fits version layout r t what l h in
+    let fields = asked_fields what in
     let replica : r % 256 ≡ r = omega (arith, fits.replica_fits) in
     let thread = from_be_bytes-to_be_bytes_2 t fits.thread_fits in
     let kind : fields.kind % 256 ≡ fields.kind = omega (arith, fits.kind) in
-    let same : request_at (event (Call r t q)) ≡ fields = call_back r t 0 fields [] fits in
-    let few = (request_fits layout.depth q h.2).kind in
-    let no_touch : (fields.kind == 5) ≡ false = ne_eqb _ _ (λ e. omega (arith, few, e)) in
-    let no_release : (fields.kind == 6) ≡ false = ne_eqb _ _ (λ e. omega (arith, few, e)) in
-    (λ i. asked_from (kind i) (replica i) (thread i) (same i))
-    ∙ ap (λ (b : Bool). if b then touch_by r t (request_from fields)
-    else (if fields.kind == 6 then Release r t (size_from fields.size) fields.physical else Call r t (request_from fields))) no_touch
-    ∙ ap (λ (b : Bool). if b then Release r t (size_from fields.size) fields.physical else Call r t (request_from fields)) no_release
-    ∙ ap (λ (made : Query). Call r t made) (request_back q)
-event_back version layout l (Touch r t a m c) h =
-    let fits = touch_fits version layout r t a m c l h in
-    let replica : r % 256 ≡ r = omega (arith, fits.replica_fits) in
-    let thread = from_be_bytes-to_be_bytes_2 t fits.thread_fits in
-    let same : request_at (event (Touch r t a m c)) ≡ touch_fields a m c = call_back r t 0 (touch_fields a m c) [] fits in
-    let request = ap request_from same ∙ touch_back a m c in
-    λ i. touch_by (replica i) (thread i) (request i)
-event_back version layout l (Release r t s p) h =
-    let fits = release_fits version layout r t s p l h in
-    let replica : r % 256 ≡ r = omega (arith, fits.replica_fits) in
-    let thread = from_be_bytes-to_be_bytes_2 t fits.thread_fits in
-    let same : request_at (event (Release r t s p)) ≡ release_fields s p = call_back r t 0 (release_fields s p) [] fits in
-    let size = ap (λ (f : RequestFields). size_from f.size) same ∙ size_back s in
-    let phys = ap (λ (f : RequestFields). f.physical) same in
-    λ i. Release (replica i) (thread i) (size i) (phys i)
+    let same : request_at (event (Call r t what)) ≡ fields = call_back r t 0 fields [] fits in
+    (λ i. Call (replica i) (thread i) (asked_from (kind i) (same i)))
+    ∙ ap (λ (a : Asked). Call r t a) (asked_back layout.depth what h.2)
 event_back version layout l (Reply c a x) h =
     let fits = reply_fits version layout c a x h in
     let call = from_be_bytes-to_be_bytes_4 c fits.call_fits in

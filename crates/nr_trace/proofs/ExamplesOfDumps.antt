@@ -26,7 +26,8 @@ use Rattle.vs_walk.specs.declared.walk.Walk.TheVariants.{NotMapped, Mapped}
 use Rattle.vs_walk.proofs.Walks.{walk_at}
 use Rattle.vs_walk.proofs.ExamplesOfOneWord.{at_word, visits_of_nothing, fine}
 use Rattle.vs_walk.proofs.ExamplesOfTables as tables
-use Rattle.nr_trace.specs.Calls.{Invocation, Response, call_of, reply_of}
+use Rattle.vs_types.specs.declared.request.Query.{Query}
+use Rattle.nr_trace.specs.Calls.{Invocation, Response, call_of, reply_of, request_of}
 use Rattle.nr_trace.specs.Examples.{empty_dump, missing_frame, shared_frame, reserved_bit, stray_frame, page_at_zero, unmapped_page, nothing_recorded}
 use Rattle.nr_trace.specs.Faults.{HasFault, HasDump}
 use Rattle.nr_trace.specs.Laws.{IsFaultless}
@@ -144,6 +145,9 @@ no_reply index reply e = cc
 no_call : (index : ℕ) (made : Invocation) → call_of nothing_recorded index ≡ Some made → ⊥
 no_call index made e = cc
 
+no_request : (call : ℕ) (request : Query) → request_of nothing_recorded call ≡ Some request → ⊥
+no_request call request e = cc
+
 no_place : (place call : ℕ) → slice_get nothing_recorded.log place ≡ Some call → ⊥
 no_place place call e = cc
 
@@ -161,7 +165,7 @@ faultless (NotPlaced index) h = no_reply index h.0 h.1
 faultless (PastLog index) h = no_reply index h.0 h.1
 faultless (Early call) (entries, inl stands, early) = no_place entries call stands.1
 faultless (Early call) (entries, inr (read, reply, is, at), early) = cc
-faultless (WrongAnswer call) h = no_call call h.made h.is_made
+faultless (WrongAnswer call) h = no_request call h.request h.asks
 faultless (PrefixPastLog replica) h = let less : 0 < 0 = of_dump (λ dump. 0 < dump.applied) replica h in omega arith
 faultless (PrefixShort replica) (dump, is, there, rests) = no_reply rests.index rests.reply rests.is_reply
 faultless (MissingFrame replica number) h = let e = of_dump (λ dump. HasMissingFrame Four dump number) replica h in none-some _ (sym no_fault ∙ e)

@@ -7,6 +7,7 @@ use Rattle.vs_types.specs.declared.answer.Answer.TheVariants.{Done, NotMapped, M
 use Rattle.vs_types.specs.declared.page.Size.TheVariants.{K4}
 use Rattle.nr_trace.specs.Calls.{Answers, IsCall, IsWellFormedHistory}
 use Rattle.nr_trace.specs.Faults.{HasFault}
+use Rattle.nr_trace.specs.declared.event.Asked.TheVariants.{Request}
 use Rattle.nr_trace.specs.Recording.{IsThere}
 use Rattle.nr_trace.proofs.ExamplesOfSpelling.{len_of_page}
 use Rattle.vs_walk.specs.Walk.{all_rights}
@@ -49,10 +50,10 @@ not_answered (suc n) l h = omega arith
 
 pub thread_open : HasFault without_first_reply (ThreadOpen 1)
 thread_open = record {
-  made = record { replica = 0; thread = 0; request = resolve_it; touch = false };
+  made = record { replica = 0; thread = 0; asked = Request resolve_it };
   is_made = refl;
   earlier = 0;
-  earlier_made = record { replica = 0; thread = 0; request = map_it; touch = false };
+  earlier_made = record { replica = 0; thread = 0; asked = Request map_it };
   is_earlier = lit< tt;
   is_earlier_made = refl;
   same_thread = refl;
@@ -67,9 +68,8 @@ other_address e = false≢true (ap (λ answer. eqb (address_of answer) 0x1123) e
 
 pub wrong_answer : HasFault (with_replies 0 2 1 0x1124) (WrongAnswer 2)
 wrong_answer = record {
-  made = record { replica = 0; thread = 0; request = resolve_it; touch = false };
-  is_made = refl;
-  no_touch = refl;
+  request = resolve_it;
+  asks = refl;
   reply = record { call = 2; at = 1; answer = Mapped 0x1124 K4 all_rights };
   is_reply = refl;
   differs = λ e. other_address (e ∙ resolve_answer);
@@ -80,9 +80,8 @@ not_allowed e = cc
 
 pub refused_wrongly : HasFault access_refused (WrongAnswer 2)
 refused_wrongly = record {
-  made = record { replica = 0; thread = 0; request = access_it; touch = false };
-  is_made = refl;
-  no_touch = refl;
+  request = access_it;
+  asks = refl;
   reply = record { call = 2; at = 1; answer = Fault 7 };
   is_reply = refl;
   differs = λ e. not_allowed (e ∙ access_answer);
@@ -103,7 +102,7 @@ prefix_short = (
     index = 1;
     reply = record { call = 0; at = 0; answer = Done };
     is_reply = refl;
-    made = record { replica = 0; thread = 0; request = map_it; touch = false };
+    made = record { replica = 0; thread = 0; asked = Request map_it };
     is_made = refl;
     here = refl;
     more = lit< tt;

@@ -3,14 +3,15 @@ use Rattle.std.proofs.Common.{◌≡◌, ℕ, zero, suc, ◌<◌, List, [], ◌�
 use Rattle.std.specs.List.{IsDistinct}
 use Rattle.std.specs.Prelude.{nat_eq}
 use Rattle.std.proofs.lemmas.Option.{same_Some}
-use Rattle.nr_trace.specs.Calls.{Invocation, Response, IsCall, IsOrdered, IsAnswered, Answers, Precedes, call_of, reply_to}
+use Rattle.vs_types.specs.declared.request.Query.{Query}
+use Rattle.nr_trace.specs.Calls.{Response, IsCall, IsOrdered, IsAnswered, Answers, Precedes, request_of, reply_to}
 use Rattle.nr_trace.specs.Orders.{before, space_after, answer_in, IsLegalOrder}
 use Rattle.nr_trace.specs.Examples.{map_then_resolve, with_more, answered_again}
 use Rattle.nr_trace.specs.declared.event.Event.{Event}
 use Rattle.nr_trace.specs.declared.event.Event.TheVariants.{Reply}
 use Rattle.vs_types.specs.declared.answer.Answer.TheVariants.{NotMapped}
 use Rattle.nr_trace.proofs.ExamplesOfAnswers.{map_answer, resolve_answer}
-use Rattle.nr_trace.proofs.LawsOfCalls.{ordered_is_call}
+use Rattle.nr_trace.proofs.LawsOfCalls.{is_some_from, ordered_is_call, request_is_call}
 
 abbrev order : List ℕ
 order = 0 ∷ 2 ∷ []
@@ -59,21 +60,21 @@ module _ (more : List Event) (none_more : (n : ℕ) → IsCall (with_more more) 
         none_before index h = omega arith
 
   abbrev Right : ℕ → Type 0
-  Right call = (made : Invocation) (reply : Response) → call_of (with_more more) call ≡ Some made → reply_to (with_more more) call ≡ Some reply
-      → reply.answer ≡ answer_in map_then_resolve.layout (space_after (with_more more) (before call order)) made.request
+  Right call = (request : Query) (reply : Response) → request_of (with_more more) call ≡ Some request → reply_to (with_more more) call ≡ Some reply
+      → reply.answer ≡ answer_in map_then_resolve.layout (space_after (with_more more) (before call order)) request
 
   first_right : Right 0
-  first_right made reply e f =
+  first_right request reply e f =
       ap (λ (r : Response). r.answer) (sym (same_Some _ reply f)) ∙ sym map_answer
-      ∙ ap (λ (m : Invocation). answer_in map_then_resolve.layout (space_after (with_more more) []) m.request) (same_Some _ made e)
+      ∙ ap (λ (q : Query). answer_in map_then_resolve.layout (space_after (with_more more) []) q) (same_Some _ request e)
 
   second_right : Right 2
-  second_right made reply e f =
+  second_right request reply e f =
       ap (λ (r : Response). r.answer) (sym (same_Some _ reply f)) ∙ sym resolve_answer
-      ∙ ap (λ (m : Invocation). answer_in map_then_resolve.layout (space_after (with_more more) (0 ∷ [])) m.request) (same_Some _ made e)
+      ∙ ap (λ (q : Query). answer_in map_then_resolve.layout (space_after (with_more more) (0 ∷ [])) q) (same_Some _ request e)
 
-  is_a_call : (call : ℕ) (made : Invocation) → call_of (with_more more) call ≡ Some made → IsCall (with_more more) call
-  is_a_call call made e = rw e refl
+  is_a_call : (call : ℕ) (request : Query) → request_of (with_more more) call ≡ Some request → IsCall (with_more more) call
+  is_a_call call request e = request_is_call (with_more more) call (is_some_from _ request e)
 
   pub legal_with : IsLegalOrder (with_more more) order
   legal_with = record {
@@ -84,7 +85,7 @@ module _ (more : List Event) (none_more : (n : ℕ) → IsCall (with_more more) 
       others = λ call m. inl (both (IsAnswered (with_more more)) refl refl call (members call m));
     };
     precedence = λ first second a b. precedes first second (members first a) (members second b);
-    answers = λ call made reply e no_touch f. both Right first_right second_right call (calls call (is_a_call call made e)) made reply e f;
+    answers = λ call request reply e f. both Right first_right second_right call (calls call (is_a_call call request e)) request reply e f;
   }
 
 pub legal : IsLegalOrder map_then_resolve order

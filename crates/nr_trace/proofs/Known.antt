@@ -20,9 +20,10 @@ use Rattle.vs_types.specs.declared.request.Query.{Query}
 use Rattle.vs_types.specs.declared.request.Query.TheVariants.{Update, Resolve, Access}
 use Rattle.vs_types.specs.declared.answer.Answer.{Answer}
 use Rattle.vs_types.specs.declared.answer.Answer.TheVariants.{Overlap, Full, Removed, Inside, Mapped, Allowed, Fault}
-use Rattle.nr_trace.specs.Versions.{KnowsDepth, KnowsQuery, KnowsAnswer, KnowsTouch, IsVersionOf, least_frames, most_frames, most_start, most_tables}
+use Rattle.nr_trace.specs.Versions.{KnowsDepth, KnowsQuery, KnowsAnswer, KnowsAsked, KnowsTouch}
+use Rattle.nr_trace.specs.Versions.{IsVersionOf, least_frames, most_frames, most_start, most_tables}
 use Rattle.nr_trace.specs.Versions.{most_threads}
-use Rattle.nr_trace.specs.Recording.{IsAnswer, IsEvent, IsMemory}
+use Rattle.nr_trace.specs.Recording.{IsAnswer, IsAskable, IsEvent, IsMemory}
 use Rattle.nr_trace.specs.FirstFault.{IsCounts, IsDumpHead, IsNext}
 use Rattle.nr_trace.specs.declared.version.Version.{Version}
 use Rattle.nr_trace.specs.declared.version.Version.TheVariants.{V1, V2, Segment}
@@ -31,7 +32,9 @@ use Rattle.nr_trace.specs.declared.version.Form.TheVariants as forms
 use Rattle.nr_trace.specs.declared.fields.Counts.{Counts}
 use Rattle.nr_trace.specs.declared.fields.DumpHead.{DumpHead}
 use Rattle.nr_trace.specs.declared.event.Event.{Event}
-use Rattle.nr_trace.specs.declared.event.Event.TheVariants.{Call, Release, Reply, Touch}
+use Rattle.nr_trace.specs.declared.event.Event.TheVariants.{Call, Reply}
+use Rattle.nr_trace.specs.declared.event.Asked.{Asked}
+use Rattle.nr_trace.specs.declared.event.Asked.TheVariants.{Request, Release, Touch}
 
 -- it holds, or it does not
 abbrev pub Known : Type 0 → Type 0
@@ -127,13 +130,19 @@ version_known _ _ = always
 memory_known : (size : Size) (phys : ℕ) → Known (IsMemory size phys)
 memory_known size phys = both (cases_eq (phys % bytes_of size) 0) (at_most (phys + bytes_of size) (2 ^ 51))
 
+askable_known : (depth : Depth) (asked : Asked) → Known (IsAskable depth asked)
+askable_known depth (Request request) = query_known depth request
+askable_known depth (Touch address mode access) = query_known depth (Access address mode access)
+askable_known depth (Release size phys) = memory_known size phys
+
+knows_asked : (version : Version) (asked : Asked) → Known (KnowsAsked version asked)
+knows_asked version (Request request) = knows_query version request
+knows_asked version (Touch address mode access) = knows_touch version
+knows_asked version (Release size phys) = knows_touch version
+
 pub event_known : (version : Version) (layout : Layout) (recorded : Event) → Known (IsEvent version layout recorded)
-event_known version layout (Call replica thread request) =
-    all_four (below replica layout.replicas) (below thread layout.threads) (query_known layout.depth request) (knows_query version request)
-event_known version layout (Touch replica thread address mode access) =
-    all_four (below replica layout.replicas) (below thread layout.threads) (query_known layout.depth (Access address mode access)) (knows_touch version)
-event_known version layout (Release replica thread size phys) =
-    all_four (below replica layout.replicas) (below thread layout.threads) (memory_known size phys) (knows_touch version)
+event_known version layout (Call replica thread asked) =
+    all_four (below replica layout.replicas) (below thread layout.threads) (askable_known layout.depth asked) (knows_asked version asked)
 event_known version layout (Reply call at answer) =
     all_four (below call (2 ^ 32)) (below at (2 ^ 32)) (answer_known answer) (knows_answer version answer)
 

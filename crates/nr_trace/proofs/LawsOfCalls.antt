@@ -1,19 +1,23 @@
 -- Calls, their first replies, and the entries that they come after, where no fault holds of the events, the log or a
 -- reply's place.
-use Rattle.std.proofs.Common.{◌≡◌, ◌≢◌, ℕ, ◌<◌, ◌≤◌, ◌⊎◌, inl, inr, Bool, true, false, ◌==◌, List, length, get_or, slice_get, Option, Some, None, is_some, IsSome}
+use Rattle.std.proofs.Common.{◌≡◌, ◌≢◌, ℕ, ◌<◌, ◌≤◌, ◌⊎◌, inl, inr, Bool, true, false}
+use Rattle.std.proofs.Common.{◌==◌, List, length, get_or, slice_get, Option, Some, None, is_some, IsSome}
 use Rattle.std.proofs.Common.{option_and_then, refl, ap, sym, ◌∙◌, subst, arith, eq-eqb, eqb-true, if◌then◌else◌}
 use Rattle.std.proofs.lemmas.Bool.{both_ways, cases_eq, cases_order, cases_lt}
 use Rattle.std.proofs.lemmas.Option.{same_Some, none-some, slice_get_within, slice_get-get_or}
 use Rattle.vs_types.specs.declared.answer.Answer.{Answer}
 use Rattle.vs_types.specs.declared.request.Query.{Query}
-use Rattle.vs_types.specs.declared.request.Query.TheVariants.{Update, Resolve, Access}
+use Rattle.vs_types.specs.declared.request.Query.TheVariants.{Update}
 use Rattle.nr_trace.specs.Recording.{Recording}
-use Rattle.nr_trace.specs.Calls.{Invocation, made_by, call_of, operation_in, read_address, operation_of, touch_of, IsCall, IsUpdate, IsRead, IsTouch, IsOrdered}
+use Rattle.nr_trace.specs.Calls.{Invocation, made_by, call_of, request_in, unordered_in, request_of, operation_in, read_address, operation_of, touch_of}
+use Rattle.nr_trace.specs.Calls.{IsCall, IsUpdate, IsRead, IsTouch, IsOrdered}
 use Rattle.nr_trace.specs.Calls.{Response, reply_in, reply_of, reply_to, Answers}
 use Rattle.nr_trace.specs.Faults.{HasFault, StandsAfter}
 use Rattle.nr_trace.specs.Laws.{HasCleanLog}
 use Rattle.nr_trace.specs.declared.event.Event.{Event}
-use Rattle.nr_trace.specs.declared.event.Event.TheVariants.{Call, Reply}
+use Rattle.nr_trace.specs.declared.event.Event.TheVariants.{Reply}
+use Rattle.nr_trace.specs.declared.event.Asked.{Asked}
+use Rattle.nr_trace.specs.declared.event.Asked.TheVariants.{Request}
 use Rattle.nr_trace.specs.declared.fault.Fault.TheVariants.{NoSuchCall}
 use Rattle.nr_trace.proofs.LawsOfLists.{first_given, given_first}
 
@@ -32,79 +36,66 @@ some_or_none (Some x) = inl refl
 
 -- ---- kinds of calls
 
--- the address of a read, and the request of a touch
-abbrev read_in : Bool → Query → Option ℕ
-read_in touch request = if touch then None else read_address request
-
-abbrev touch_in : Bool → Query → Option Query
-touch_in touch request = if touch then Some request else None
+-- a request is an operation or a read
+request_kinds : (request : Query) → IsSome (operation_in request) ⊎ IsSome (read_address request)
+request_kinds (Update action) = inl refl
+request_kinds request = inr refl
 
 made_kinds : (o : Option Invocation) → IsSome o
-    → (IsSome (option_and_then (λ (made : Invocation). operation_in made.request) o)
-    ⊎ IsSome (option_and_then (λ (made : Invocation). read_in made.touch made.request) o))
-    ⊎ IsSome (option_and_then (λ (made : Invocation). touch_in made.touch made.request) o)
+    → (IsSome (option_and_then operation_in (option_and_then (λ (made : Invocation). request_in made.asked) o))
+    ⊎ IsSome (option_and_then read_address (option_and_then (λ (made : Invocation). request_in made.asked) o)))
+    ⊎ IsSome (option_and_then (λ (made : Invocation). unordered_in made.asked) o)
 made_kinds None h = absurd cc
-made_kinds (Some made) h = by_kind made.touch made.request where
-  by_kind : (touch : Bool) (request : Query) → (IsSome (operation_in request) ⊎ IsSome (read_in touch request)) ⊎ IsSome (touch_in touch request)
-  by_kind true request = inr refl
-  by_kind false (Update action) = inl (inl refl)
-  by_kind false (Resolve address) = inl (inr refl)
-  by_kind false (Access address mode access) = inl (inr refl)
+made_kinds (Some made) h = by_kind made.asked where
+  by_kind : (asked : Asked) → (IsSome (option_and_then operation_in (request_in asked)) ⊎ IsSome (option_and_then read_address (request_in asked)))
+      ⊎ IsSome (unordered_in asked)
+  by_kind (Request request) = inl (request_kinds request)
+  by_kind asked = inr refl
 
 pub ordered_or_touch : (trace : Recording) (call : ℕ) → IsCall trace call → IsOrdered trace call ⊎ IsTouch trace call
 ordered_or_touch trace call h = made_kinds (call_of trace call) h
 
--- a call that is no touch is an update or a read
-pub ordered_from_made : (trace : Recording) (call : ℕ) (made : Invocation) → call_of trace call ≡ Some made → made.touch ≡ false → IsOrdered trace call
-ordered_from_made trace call made is_made no_touch =
-    by_kind (ordered_or_touch trace call (is_some_from (call_of trace call) made is_made)) where
-      none : touch_of trace call ≡ None
-      none = rw (is_made, no_touch) refl
+-- a call that asks for a request is an update or a read
+pub ordered_from_request : (trace : Recording) (call : ℕ) (request : Query) → request_of trace call ≡ Some request → IsOrdered trace call
+ordered_from_request trace call request asks =
+    subst (λ (o : Option Query). IsSome (option_and_then operation_in o) ⊎ IsSome (option_and_then read_address o)) (sym asks) (request_kinds request)
 
-      by_kind : IsOrdered trace call ⊎ IsTouch trace call → IsOrdered trace call
-      by_kind (inl h) = h
-      by_kind (inr h) = absurd (both_ways (is_some (touch_of trace call)) (ap is_some none) h)
-
-made_both : (o : Option Invocation) → IsSome (option_and_then (λ (made : Invocation). operation_in made.request) o)
-    → IsSome (option_and_then (λ (made : Invocation). read_in made.touch made.request) o) → ⊥
+made_both : (o : Option Query) → IsSome (option_and_then operation_in o) → IsSome (option_and_then read_address o) → ⊥
 made_both None h k = cc
-made_both (Some made) h k = by_kind made.touch made.request h k where
-  by_kind : (touch : Bool) (request : Query) → IsSome (operation_in request) → IsSome (read_in touch request) → ⊥
-  by_kind true request h k = cc
-  by_kind false (Update action) h k = cc
-  by_kind false (Resolve address) h k = cc
-  by_kind false (Access address mode access) h k = cc
+made_both (Some (Update action)) h k = cc
+made_both (Some request) h k = cc
 
-read_or_touch : (o : Option Invocation) → IsSome (option_and_then (λ (made : Invocation). read_in made.touch made.request) o)
-    → IsSome (option_and_then (λ (made : Invocation). touch_in made.touch made.request) o) → ⊥
-read_or_touch None h k = cc
-read_or_touch (Some made) h k = by_kind made.touch made.request h k where
-  by_kind : (touch : Bool) (request : Query) → IsSome (read_in touch request) → IsSome (touch_in touch request) → ⊥
-  by_kind true request h k = cc
-  by_kind false request h k = cc
-
--- only an access is a touch
-touch_or_update : (o : Option Event) → IsSome (option_and_then (λ (made : Invocation). operation_in made.request) (option_and_then made_by o))
-    → IsSome (option_and_then (λ (made : Invocation). touch_in made.touch made.request) (option_and_then made_by o)) → ⊥
-touch_or_update (Some (Call replica thread request)) h k = cc
-touch_or_update _ h k = cc
+request_or_touch : (o : Option Invocation) → IsSome (option_and_then (λ (made : Invocation). request_in made.asked) o)
+    → IsSome (option_and_then (λ (made : Invocation). unordered_in made.asked) o) → ⊥
+request_or_touch None h k = cc
+request_or_touch (Some made) h k = by_kind made.asked h k where
+  by_kind : (asked : Asked) → IsSome (request_in asked) → IsSome (unordered_in asked) → ⊥
+  by_kind (Request request) h k = cc
+  by_kind asked h k = cc
 
 pub not_both : (trace : Recording) (call : ℕ) → IsUpdate trace call → IsRead trace call → ⊥
-not_both trace call h k = made_both (call_of trace call) h k
+not_both trace call h k = made_both (request_of trace call) h k
 
 then_some : {A B : Type 0} (f : A → Option B) (o : Option A) → IsSome (option_and_then f o) → IsSome o
 then_some f None h = absurd cc
 then_some f (Some x) h = refl
 
+pub request_is_call : (trace : Recording) (call : ℕ) → IsSome (request_of trace call) → IsCall trace call
+request_is_call trace call h = then_some (λ (made : Invocation). request_in made.asked) (call_of trace call) h
+
+-- an update or a read asks for a request
+ordered_asks : (trace : Recording) (call : ℕ) → IsOrdered trace call → IsSome (request_of trace call)
+ordered_asks trace call (inl h) = then_some operation_in (request_of trace call) h
+ordered_asks trace call (inr h) = then_some read_address (request_of trace call) h
+
 pub update_is_call : (trace : Recording) (call : ℕ) → IsUpdate trace call → IsCall trace call
-update_is_call trace call h = then_some (λ (made : Invocation). operation_in made.request) (call_of trace call) h
+update_is_call trace call h = request_is_call trace call (ordered_asks trace call (inl h))
 
 pub read_is_call : (trace : Recording) (call : ℕ) → IsRead trace call → IsCall trace call
-read_is_call trace call h = then_some (λ (made : Invocation). read_in made.touch made.request) (call_of trace call) h
+read_is_call trace call h = request_is_call trace call (ordered_asks trace call (inr h))
 
 pub ordered_is_call : (trace : Recording) (call : ℕ) → IsOrdered trace call → IsCall trace call
-ordered_is_call trace call (inl h) = update_is_call trace call h
-ordered_is_call trace call (inr h) = read_is_call trace call h
+ordered_is_call trace call h = request_is_call trace call (ordered_asks trace call h)
 
 pub call_within : (trace : Recording) (call : ℕ) → IsCall trace call → call < length trace.events
 call_within trace call h =
@@ -120,8 +111,7 @@ no_operation trace call h = none_from_not_some (operation_of trace call) (λ k. 
 
 -- an update or a read is no touch
 pub ordered_no_touch : (trace : Recording) (call : ℕ) → IsOrdered trace call → touch_of trace call ≡ None
-ordered_no_touch trace call (inl h) = none_from_not_some (touch_of trace call) (λ k. touch_or_update (slice_get trace.events call) h k)
-ordered_no_touch trace call (inr h) = none_from_not_some (touch_of trace call) (λ k. read_or_touch (call_of trace call) h k)
+ordered_no_touch trace call h = none_from_not_some (touch_of trace call) (λ k. request_or_touch (call_of trace call) (ordered_asks trace call h) k)
 
 pub update_from_not_not : (trace : Recording) (call : ℕ) → ((IsUpdate trace call → ⊥) → ⊥) → IsUpdate trace call
 update_from_not_not trace call h = by_case (some_or_none (operation_of trace call)) where

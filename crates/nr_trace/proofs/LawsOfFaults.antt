@@ -27,7 +27,7 @@ use Rattle.nr_trace.specs.declared.fault.Fault.TheVariants.{WrongAnswer, PrefixP
 use Rattle.nr_trace.specs.declared.fault.Fault.TheVariants.{Differs}
 use Rattle.nr_trace.specs.declared.fault.Fault.TheVariants.{StartMissing, StartShared, StartReserved, StartStray, StartBeyond, StartDiffers, Stale, Reachable}
 use Rattle.nr_trace.proofs.LawsOfLists.{In, earlier_member, member_before, in_from_Contains, Contains-from_in, same_place}
-use Rattle.nr_trace.proofs.LawsOfCalls.{answered_stands, call_within, is_some_from, ordered_from_made, reply_below}
+use Rattle.nr_trace.proofs.LawsOfCalls.{answered_stands, call_within, is_some_from, ordered_from_request, reply_below}
 use Rattle.nr_trace.proofs.LawsOfOrder.{standing_is_member}
 use Rattle.nr_trace.proofs.LawsOfSpelling.{one_trace}
 use Rattle.nr_trace.proofs.LawsOfFormat.{one_fault, no_fault}
@@ -172,7 +172,8 @@ earlier_parts trace f g e = below_from_less _ _ _ _ _ _ (ap₂ (slice_cmp nat_cm
 
 -- a fault of an earlier pass is earlier
 pub earlier_pass : (trace : Recording) (f g : Fault) → pass f < pass g → Earlier trace f g
-earlier_pass trace f g lt = ap₂ (slice_cmp nat_cmp) (rank_is trace f) (rank_is trace g) ∙ less_from_below (pass f) (index_of trace f) (number_of trace f) (pass g)
+earlier_pass trace f g lt =
+    ap₂ (slice_cmp nat_cmp) (rank_is trace f) (rank_is trace g) ∙ less_from_below (pass f) (index_of trace f) (number_of trace f) (pass g)
     (index_of trace g) (number_of trace g) (inl lt)
 
 -- ---- the indexes of what holds
@@ -188,7 +189,7 @@ made_within trace call made e = call_within trace call (is_some_from (call_of tr
 
 pub wrong_is_member : (start : Space) (trace : Recording) (call : ℕ) → HasCleanLog trace → IsWrongFrom start trace call → Contains (recorded_order trace) call
 wrong_is_member start trace call clean wrong =
-    let both = answered_stands trace call wrong.reply clean (ordered_from_made trace call wrong.made wrong.is_made wrong.no_touch) wrong.is_reply in
+    let both = answered_stands trace call wrong.reply clean (ordered_from_request trace call wrong.request wrong.asks) wrong.is_reply in
     Contains-from_in call (recorded_order trace) (standing_is_member trace wrong.reply.at call both.1 both.0)
 
 -- a wrong answer that is earlier than another one is of a call that comes before the other's

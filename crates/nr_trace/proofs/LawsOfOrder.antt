@@ -12,9 +12,10 @@ use Rattle.std.proofs.lemmas.Option.{slice_get_within}
 use Rattle.vs_types.specs.Step.{after_all}
 use Rattle.vs_types.specs.Space.{Space}
 use Rattle.vs_types.specs.declared.answer.Answer.{Answer}
+use Rattle.vs_types.specs.declared.request.Query.{Query}
 use Rattle.nr_trace.specs.Recording.{Recording}
 use Rattle.nr_trace.specs.Spelling.{answer_fields}
-use Rattle.nr_trace.specs.Calls.{Invocation, call_of, operation_of, address_of, IsOrdered, IsUpdate, IsRead, Response, reply_to, IsAnswered}
+use Rattle.nr_trace.specs.Calls.{request_of, operation_of, address_of, IsOrdered, IsUpdate, IsRead, Response, reply_to, IsAnswered}
 use Rattle.nr_trace.specs.Orders.{below, before, updates, operations, space_from, answer_in, reads_at, recorded_order}
 use Rattle.nr_trace.specs.Faults.{HasFaultFrom, StandsAfter}
 use Rattle.nr_trace.specs.Laws.{HasCleanLog, IsSerialFrom}
@@ -273,16 +274,15 @@ same_or_not a b =
       by_parts (inl c) (inl s) (inl r) (inr n) = inr (λ e. n (ap (λ x. (answer_fields x).value) e))
 
 pub right_answer : (start : Space) (trace : Recording) → ((call : ℕ) → HasFaultFrom start trace (WrongAnswer call) → ⊥)
-    → (call : ℕ) (made : Invocation) (reply : Response)
-    → call_of trace call ≡ Some made → made.touch ≡ false → reply_to trace call ≡ Some reply
-    → reply.answer ≡ answer_in trace.layout (space_from start trace (before call (recorded_order trace))) made.request
-right_answer start trace right call made reply e no_touch f =
-    by_case (same_or_not reply.answer (answer_in trace.layout (space_from start trace (before call (recorded_order trace))) made.request)) where
-      by_case : (reply.answer ≡ answer_in trace.layout (space_from start trace (before call (recorded_order trace))) made.request) ⊎
-          (reply.answer ≢ answer_in trace.layout (space_from start trace (before call (recorded_order trace))) made.request)
-          → reply.answer ≡ answer_in trace.layout (space_from start trace (before call (recorded_order trace))) made.request
+    → (call : ℕ) (request : Query) (reply : Response) → request_of trace call ≡ Some request → reply_to trace call ≡ Some reply
+    → reply.answer ≡ answer_in trace.layout (space_from start trace (before call (recorded_order trace))) request
+right_answer start trace right call request reply e f =
+    by_case (same_or_not reply.answer (answer_in trace.layout (space_from start trace (before call (recorded_order trace))) request)) where
+      by_case : (reply.answer ≡ answer_in trace.layout (space_from start trace (before call (recorded_order trace))) request) ⊎
+          (reply.answer ≢ answer_in trace.layout (space_from start trace (before call (recorded_order trace))) request)
+          → reply.answer ≡ answer_in trace.layout (space_from start trace (before call (recorded_order trace))) request
       by_case (inl h) = h
-      by_case (inr n) = absurd (right call (record { made = made; is_made = e; no_touch = no_touch; reply = reply; is_reply = f; differs = n }))
+      by_case (inr n) = absurd (right call (record { request = request; asks = e; reply = reply; is_reply = f; differs = n }))
 
 pub legal_but_precedence : (start : Space) (trace : Recording) → HasCleanLog trace → ((call : ℕ) → HasFaultFrom start trace (WrongAnswer call) → ⊥)
     → IsSerialFrom start trace (recorded_order trace)

@@ -6,7 +6,7 @@ use Rattle.nr_trace.specs.Parts.{HasFrames}
 use Rattle.nr_trace.specs.Recording.{IsEvent}
 use Rattle.nr_trace.specs.Versions.{FitsFirst, IsVersionOf, KnowsDepth, KnowsEvent, most_tables, most_threads}
 use Rattle.nr_trace.specs.declared.event.Event.{Event}
-use Rattle.nr_trace.specs.declared.event.Event.TheVariants.{Call, Release, Reply, Touch}
+use Rattle.nr_trace.specs.declared.event.Event.TheVariants.{Call, Reply}
 use Rattle.nr_trace.specs.declared.version.Version.{Version}
 use Rattle.nr_trace.specs.declared.version.Version.TheVariants.{V1, V2, Segment}
 use Rattle.nr_trace.specs.declared.version.Form.TheVariants as forms
@@ -25,9 +25,7 @@ of_config Segment layout is_trace is = absurd is_trace
 
 -- version 2 knows all that there is, and version 1 what fits it
 known_in_first : (layout : Layout) (event : Event) → IsEvent V2 layout event → KnowsEvent V1 event → IsEvent V1 layout event
-known_in_first layout (Call replica thread request) fits known = (fits.0, fits.1, fits.2, known)
-known_in_first layout (Touch replica thread address mode access) fits known = absurd known
-known_in_first layout (Release replica thread size phys) fits known = absurd known
+known_in_first layout (Call replica thread asked) fits known = (fits.0, fits.1, fits.2, known)
 known_in_first layout (Reply call at answer) fits known = (fits.0, fits.1, fits.2, known)
 
 pub known_in_least : (version : Version) (layout : Layout) (events : List Event) → IsVersionOf forms.Trace version → All (IsEvent V2 layout) events

@@ -9,13 +9,14 @@ use Rattle.vs_types.specs.Codes.{size_code}
 use Rattle.vs_types.specs.declared.page.Size.{Size}
 use Rattle.vs_types.specs.declared.request.Query.{Query}
 use Rattle.vs_types.specs.declared.request.Query.TheVariants.{Access}
-use Rattle.nr_trace.specs.Versions.{KnowsTouch}
-use Rattle.nr_trace.specs.Recording.{IsEvent, IsMemory}
-use Rattle.nr_trace.specs.Spelling.{event, release_fields}
-use Rattle.nr_trace.specs.inside.Reading.{asked_by, asked_fields, IsAsked, IsAskedIn, IsReleaseWith, IsRequestIn, IsTouchWith, SpellsEvent}
-use Rattle.nr_trace.specs.declared.reading.events.Asked.{Asked}
-use Rattle.nr_trace.specs.declared.reading.events.Asked.TheVariants as askeds
+use Rattle.nr_trace.specs.Versions.{KnowsAsked, KnowsTouch}
+use Rattle.nr_trace.specs.Recording.{IsAskable, IsMemory}
+use Rattle.nr_trace.specs.Spelling.{asked_fields, release_fields}
+use Rattle.nr_trace.specs.inside.Reading.{IsAskedIn, IsReleaseWith, IsRequestIn, IsTouchWith, SpellsEvent}
+use Rattle.nr_trace.specs.declared.event.Asked.{Asked}
+use Rattle.nr_trace.specs.declared.event.Asked.TheVariants as askeds
 use Rattle.nr_trace.specs.declared.version.Version.{Version}
+use Rattle.nr_trace.specs.declared.event.Event.TheVariants.{Call}
 use Rattle.nr_trace.proofs.LawsOfUnits.{request_fits, size_back, size_from}
 use Rattle.nr_trace.proofs.EventsApart.{call_bytes}
 use Rattle.nr_trace.proofs.Taken.{only_front}
@@ -38,7 +39,7 @@ no_touch depth fields none asked is =
 touch_asked : (version : Version) (depth : Depth) (fields : RequestFields) (asked : Asked) → KnowsTouch version → IsTouchWith depth fields asked
     → IsAskedIn version depth fields asked
 touch_asked version depth fields asked knows is = record {
-  in_range = subst (IsAsked version depth) (sym is.asked_is) (is.in_range, knows);
+  in_range = subst (λ (a : Asked). IsAskable depth a × KnowsAsked version a) (sym is.asked_is) (is.in_range, knows);
   fields_are = is.fields_are ∙ ap asked_fields (sym is.asked_is);
 }
 
@@ -67,7 +68,7 @@ touches_asked version depth fields (Some asked) knows kind is = touch_asked vers
 release_asked : (version : Version) (depth : Depth) (fields : RequestFields) (asked : Asked) → KnowsTouch version → IsReleaseWith fields asked
     → IsAskedIn version depth fields asked
 release_asked version depth fields asked knows is = record {
-  in_range = subst (IsAsked version depth) (sym is.asked_is) (is.in_range, knows);
+  in_range = subst (λ (a : Asked). IsAskable depth a × KnowsAsked version a) (sym is.asked_is) (is.in_range, knows);
   fields_are = is.fields_are ∙ ap asked_fields (sym is.asked_is);
 }
 
@@ -125,24 +126,13 @@ none_so fields size code none asked is =
 
 -- ---- a call of 24 bytes
 
-event_fits : (version : Version) (layout : Layout) (replica thread : ℕ) (asked : Asked) → replica < layout.replicas → thread < layout.threads
-    → IsAsked version layout.depth asked → IsEvent version layout (asked_by replica thread asked)
-event_fits version layout replica thread (askeds.Request request) r t is = (r, t, is.0, is.1)
-event_fits version layout replica thread (askeds.Touch address mode access) r t is = (r, t, is.0, is.1)
-event_fits version layout replica thread (askeds.Release size phys) r t is = (r, t, is.0, is.1)
-
-event_spelled : (replica thread : ℕ) (asked : Asked) → 0 ∷ call_bytes replica thread (asked_fields asked) 0 ≡ event (asked_by replica thread asked)
-event_spelled replica thread (askeds.Request request) = refl
-event_spelled replica thread (askeds.Touch address mode access) = refl
-event_spelled replica thread (askeds.Release size phys) = refl
-
 pub call_spelled : (version : Version) (layout : Layout) (bytes : List ℕ) (replica thread unused : ℕ) (fields : RequestFields) (rest : List ℕ)
     (asked : Asked) → bytes ≡ call_bytes replica thread fields unused ++ rest → length bytes ≡ 23 → unused ≡ 0 → replica < layout.replicas
-    → thread < layout.threads → IsAskedIn version layout.depth fields asked → SpellsEvent version layout (0 ∷ bytes) (asked_by replica thread asked)
+    → thread < layout.threads → IsAskedIn version layout.depth fields asked → SpellsEvent version layout (0 ∷ bytes) (Call replica thread asked)
 call_spelled version layout bytes replica thread unused fields rest asked parts long none r t is =
     let whole : bytes ≡ call_bytes replica thread fields unused = only_front bytes (call_bytes replica thread fields unused) rest parts long in
     record {
-      in_range = event_fits version layout replica thread asked r t is.in_range;
+      in_range = (r, t, is.in_range.0, is.in_range.1);
       spelled = ap (λ (l : List ℕ). 0 ∷ l) (whole ∙ ap (call_bytes replica thread fields) none
-          ∙ ap (λ (f : RequestFields). call_bytes replica thread f 0) is.fields_are) ∙ event_spelled replica thread asked;
+          ∙ ap (λ (f : RequestFields). call_bytes replica thread f 0) is.fields_are);
     }

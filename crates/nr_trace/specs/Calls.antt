@@ -1,5 +1,5 @@
 -- The calls of a trace: what they ask, how they are answered, and which was answered before another was made.
-use Rattle.std.specs.Prelude.{◌≡◌, ℕ, ◌<◌, ◌==◌, ◌⊎◌, slice_get, filter_map, Bool, true, false, Option, Some, None, option_and_then, IsSome, if◌then◌else◌}
+use Rattle.std.specs.Prelude.{◌≡◌, ℕ, ◌<◌, ◌==◌, ◌⊎◌, slice_get, filter_map, Option, Some, None, option_and_then, IsSome, if◌then◌else◌}
 use Rattle.vs_types.specs.declared.answer.Answer.{Answer}
 use Rattle.vs_types.specs.declared.page.Size.{Size}
 use Rattle.vs_types.specs.declared.op.Action.{Action}
@@ -7,26 +7,33 @@ use Rattle.vs_types.specs.declared.request.Query.{Query}
 use Rattle.vs_types.specs.declared.request.Query.TheVariants.{Update, Resolve, Access}
 use Rattle.nr_trace.specs.Recording.{Recording}
 use Rattle.nr_trace.specs.declared.event.Event.{Event}
-use Rattle.nr_trace.specs.declared.event.Event.TheVariants.{Call, Reply, Release, Touch}
+use Rattle.nr_trace.specs.declared.event.Event.TheVariants.{Call, Reply}
+use Rattle.nr_trace.specs.declared.event.Asked.{Asked}
+use Rattle.nr_trace.specs.declared.event.Asked.TheVariants.{Request, Release}
 
--- the maker of a call, its replica, and what it asks; and whether it has no place in an order, as a touch, which is an access that a processor
--- made through its TLB, and a release, whose request says nothing
+-- the maker of a call, its replica, and what it asks
 pub record Invocation : Type 0 where
   pub replica : ℕ
   pub thread : ℕ
-  pub request : Query
-  pub touch : Bool
+  pub asked : Asked
 
 abbrev pub made_by : Event → Option Invocation
-made_by (Call replica thread request) = Some (record { replica = replica; thread = thread; request = request; touch = false })
-made_by (Touch replica thread address mode access) =
-    Some (record { replica = replica; thread = thread; request = Access address mode access; touch = true })
-made_by (Release replica thread size phys) = Some (record { replica = replica; thread = thread; request = Resolve 0; touch = true })
-made_by (Reply call at answer) = None
+made_by (Call replica thread asked) = Some (record { replica = replica; thread = thread; asked = asked })
+made_by event = None
 
 -- the call of this number
 abbrev pub call_of : Recording → ℕ → Option Invocation
 call_of trace call = option_and_then made_by (slice_get trace.events call)
+
+-- what is asked of the address space, in its place in an order: a request. What asks anything else has no place in an order, as a touch, which
+-- is an access that a processor made through its TLB, and a release
+abbrev pub request_in : Asked → Option Query
+request_in (Request request) = Some request
+request_in asked = None
+
+abbrev pub unordered_in : Asked → Option Asked
+unordered_in (Request request) = None
+unordered_in asked = Some asked
 
 abbrev pub operation_in : Query → Option Action
 operation_in (Update action) = Some action
@@ -38,29 +45,34 @@ read_address (Update action) = None
 read_address (Resolve address) = Some address
 read_address (Access address mode access) = Some address
 
--- the operation of an update, and the address of a read: a call that asks for a resolve or an access, and is no touch or release
+-- the request of an update or a read: of a call that is no touch or release
+abbrev pub request_of : Recording → ℕ → Option Query
+request_of trace call = option_and_then (λ made. request_in made.asked) (call_of trace call)
+
+-- the operation of an update, and the address of a read: a resolve or an access
 abbrev pub operation_of : Recording → ℕ → Option Action
-operation_of trace call = option_and_then (λ made. operation_in made.request) (call_of trace call)
+operation_of trace call = option_and_then operation_in (request_of trace call)
 
 abbrev pub address_of : Recording → ℕ → Option ℕ
-address_of trace call = option_and_then (λ made. if made.touch then None else read_address made.request) (call_of trace call)
+address_of trace call = option_and_then read_address (request_of trace call)
 
-abbrev pub touch_of : Recording → ℕ → Option Query
-touch_of trace call = option_and_then (λ made. if made.touch then Some made.request else None) (call_of trace call)
+-- what a touch or a release asks
+abbrev pub touch_of : Recording → ℕ → Option Asked
+touch_of trace call = option_and_then (λ made. unordered_in made.asked) (call_of trace call)
 
 -- memory that is given to somebody else: of a size, from a physical address on
 pub record Released : Type 0 where
   pub size : Size
   pub phys : ℕ
 
--- the memory that a release gives away; None of another event
-abbrev pub released_in : Event → Option Released
-released_in (Release replica thread size phys) = Some (record { size = size; phys = phys })
-released_in event = None
+-- the memory that a release gives away; None of what asks anything else
+abbrev pub released_in : Asked → Option Released
+released_in (Release size phys) = Some (record { size = size; phys = phys })
+released_in asked = None
 
 -- the memory that the call of this number gives away, if it is a release
 abbrev pub released_of : Recording → ℕ → Option Released
-released_of trace call = option_and_then released_in (slice_get trace.events call)
+released_of trace call = option_and_then (λ made. released_in made.asked) (call_of trace call)
 
 abbrev pub IsCall : Recording → ℕ → Type 0
 IsCall trace call = IsSome (call_of trace call)
@@ -85,10 +97,8 @@ pub record Response : Type 0 where
   pub answer : Answer
 
 abbrev pub reply_in : Event → Option Response
-reply_in (Call replica thread request) = None
-reply_in (Touch replica thread address mode access) = None
-reply_in (Release replica thread size phys) = None
 reply_in (Reply call at answer) = Some (record { call = call; at = at; answer = answer })
+reply_in event = None
 
 -- the reply that the event of this index is
 abbrev pub reply_of : Recording → ℕ → Option Response

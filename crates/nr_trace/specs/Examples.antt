@@ -18,7 +18,8 @@ use Rattle.vs_walk.specs.Dump.{Image}
 use Rattle.nr_trace.specs.Recording.{Recording}
 use Rattle.nr_trace.specs.declared.version.Version.TheVariants.{V1, V2, Segment}
 use Rattle.nr_trace.specs.declared.event.Event.{Event}
-use Rattle.nr_trace.specs.declared.event.Event.TheVariants.{Call, Reply, Touch}
+use Rattle.nr_trace.specs.declared.event.Event.TheVariants.{Call, Reply}
+use Rattle.nr_trace.specs.declared.event.Asked.TheVariants.{Request, Touch}
 
 -- a frame with this word at this index, and else zeros
 abbrev pub frame_with : ℕ → ℕ → List ℕ
@@ -51,7 +52,7 @@ map_then_resolve = record {
   layout = record { depth = Four; replicas = 1; threads = 1; tables = 4 };
   start = None;
   log = 0 ∷ [];
-  events = Call 0 0 map_it ∷ Reply 0 0 Done ∷ Call 0 0 resolve_it ∷ Reply 2 1 looks_mapped ∷ [];
+  events = Call 0 0 (Request map_it) ∷ Reply 0 0 Done ∷ Call 0 0 (Request resolve_it) ∷ Reply 2 1 looks_mapped ∷ [];
   dumps = dump_of_page ∷ [];
 }
 
@@ -79,7 +80,8 @@ read_before_and_after = record {
   layout = record { depth = Four; replicas = 1; threads = 3; tables = 4096 };
   start = None;
   log = 0 ∷ [];
-  events = Call 0 0 map_it ∷ Call 0 1 resolve_it ∷ Call 0 2 resolve_it ∷ Reply 0 0 Done ∷ Reply 1 1 looks_mapped ∷ Reply 2 0 NotMapped ∷ [];
+  events = Call 0 0 (Request map_it) ∷ Call 0 1 (Request resolve_it) ∷ Call 0 2 (Request resolve_it)
+      ∷ Reply 0 0 Done ∷ Reply 1 1 looks_mapped ∷ Reply 2 0 NotMapped ∷ [];
   dumps = dump_of_page ∷ [];
 }
 
@@ -90,7 +92,7 @@ stale_read = record {
   layout = record { depth = Four; replicas = 2; threads = 3; tables = 4096 };
   start = None;
   log = 0 ∷ [];
-  events = Call 0 0 map_it ∷ Call 0 1 resolve_it ∷ Reply 1 1 looks_mapped ∷ Call 1 2 resolve_it ∷ Reply 3 0 NotMapped ∷ [];
+  events = Call 0 0 (Request map_it) ∷ Call 0 1 (Request resolve_it) ∷ Reply 1 1 looks_mapped ∷ Call 1 2 (Request resolve_it) ∷ Reply 3 0 NotMapped ∷ [];
   dumps = dump_of_page ∷ dump_of_page ∷ [];
 }
 
@@ -101,7 +103,7 @@ unanswered_too_early = record {
   layout = record { depth = Four; replicas = 1; threads = 2; tables = 4096 };
   start = None;
   log = 2 ∷ 0 ∷ [];
-  events = Call 0 0 map_it ∷ Reply 0 1 Done ∷ Call 0 1 (Update (Unmap 0x500000)) ∷ [];
+  events = Call 0 0 (Request map_it) ∷ Reply 0 1 Done ∷ Call 0 1 (Request (Update (Unmap 0x500000))) ∷ [];
   dumps = dump_of_page ∷ [];
 }
 
@@ -112,7 +114,7 @@ unanswered_left_out = record {
   layout = record { depth = Four; replicas = 1; threads = 3; tables = 4096 };
   start = None;
   log = 0 ∷ [];
-  events = Call 0 0 map_it ∷ Call 0 1 resolve_it ∷ Call 0 2 (Update (Unmap 0x400000)) ∷ Reply 1 1 looks_mapped ∷ [];
+  events = Call 0 0 (Request map_it) ∷ Call 0 1 (Request resolve_it) ∷ Call 0 2 (Request (Update (Unmap 0x400000))) ∷ Reply 1 1 looks_mapped ∷ [];
   dumps = dump_of_page ∷ [];
 }
 
@@ -123,10 +125,12 @@ with_log log = record map_then_resolve { log = log }
 
 abbrev pub with_replies : ℕ → ℕ → ℕ → ℕ → Recording
 with_replies place call entries phys =
-    record map_then_resolve { events = Call 0 0 map_it ∷ Reply 0 place Done ∷ Call 0 0 resolve_it ∷ Reply call entries (Mapped phys K4 all_rights) ∷ [] }
+    record map_then_resolve {
+      events = Call 0 0 (Request map_it) ∷ Reply 0 place Done ∷ Call 0 0 (Request resolve_it) ∷ Reply call entries (Mapped phys K4 all_rights) ∷ [];
+    }
 
 abbrev pub without_first_reply : Recording
-without_first_reply = record map_then_resolve { events = Call 0 0 map_it ∷ Call 0 0 resolve_it ∷ Reply 1 1 looks_mapped ∷ [] }
+without_first_reply = record map_then_resolve { events = Call 0 0 (Request map_it) ∷ Call 0 0 (Request resolve_it) ∷ Reply 1 1 looks_mapped ∷ [] }
 
 abbrev pub with_more : List Event → Recording
 with_more events = record map_then_resolve { events = map_then_resolve.events ++ events }
@@ -143,7 +147,7 @@ abbrev pub access_it : Query
 access_it = Access 0x400123 User Write
 
 abbrev pub with_access : Answer → Recording
-with_access answer = record as_version_2 { events = Call 0 0 map_it ∷ Reply 0 0 Done ∷ Call 0 0 access_it ∷ Reply 2 1 answer ∷ [] }
+with_access answer = record as_version_2 { events = Call 0 0 (Request map_it) ∷ Reply 0 0 Done ∷ Call 0 0 (Request access_it) ∷ Reply 2 1 answer ∷ [] }
 
 abbrev pub map_then_access : Recording
 map_then_access = with_access (Allowed 0x1123)
@@ -206,7 +210,7 @@ map_then_touch = record {
   layout = record { depth = Four; replicas = 1; threads = 2; tables = 4 };
   start = None;
   log = 0 ∷ [];
-  events = Call 0 0 map_it ∷ Reply 0 0 Done ∷ Touch 0 1 0x400123 User Write ∷ Reply 2 9 (Allowed 0x1123) ∷ [];
+  events = Call 0 0 (Request map_it) ∷ Reply 0 0 Done ∷ Call 0 1 (Touch 0x400123 User Write) ∷ Reply 2 9 (Allowed 0x1123) ∷ [];
   dumps = no_dump ∷ [];
 }
 

@@ -1,15 +1,16 @@
 -- The faults of a trace, as statements, and which comes first.
-use Rattle.std.specs.Prelude.{◌≡◌, ◌≢◌, ℕ, ◌<◌, ◌⊎◌, List, [], ◌∷◌, length, take, slice_get, Some, false}
+use Rattle.std.specs.Prelude.{◌≡◌, ◌≢◌, ℕ, ◌<◌, ◌⊎◌, List, [], ◌∷◌, length, take, slice_get, Some}
 use Rattle.std.specs.Ordering.{nat_cmp}
 use Rattle.std.specs.Cmp.Lexicographic.{slice_cmp}
 use Rattle.std.specs.declared.cmp.Ordering.TheVariants.{Less}
 use Rattle.vs_types.specs.Space.{Space, no_pages}
+use Rattle.vs_types.specs.declared.request.Query.{Query}
 use Rattle.vs_walk.specs.Differences.{HasMissingFrame, HasSharedFrame, HasReservedBit, HasStrayFrame, HasDifference}
 use Rattle.vs_walk.specs.Dump.{Image}
 use Rattle.nr_trace.specs.Recording.{Recording, IsThere}
 use Rattle.nr_trace.specs.Spelling.{Spells}
 use Rattle.nr_trace.specs.FirstFault.{HasFormatFault}
-use Rattle.nr_trace.specs.Calls.{Invocation, call_of, Response, reply_of, reply_to, Answers, IsCall, IsUpdate, IsRead}
+use Rattle.nr_trace.specs.Calls.{Invocation, call_of, request_of, Response, reply_of, reply_to, Answers, IsCall, IsUpdate, IsRead}
 use Rattle.nr_trace.specs.Orders.{before, space_from, answer_in, recorded_order, floor, known_by}
 use Rattle.nr_trace.specs.declared.fault.Fault.{Fault}
 use Rattle.nr_trace.specs.declared.fault.Fault.TheVariants.{Format, ThreadOpen, NoSuchCall, AnsweredTwice, NotAnUpdate, PlacedTwice, NotPlaced, PastLog, Early}
@@ -42,14 +43,13 @@ StandsAfter trace call entries =
     (IsUpdate trace call × (slice_get trace.log entries ≡ Some call))
     ⊎ (IsRead trace call × (reply : Response) × (reply_to trace call ≡ Some reply) × (reply.at ≡ entries))
 
--- an answered call, no touch or release, whose answer the space does not give in the recorded order
+-- an answered update or read, whose answer the space does not give in the recorded order
 pub record IsWrongFrom (start : Space) (trace : Recording) (call : ℕ) : Type 0 where
-  pub made : Invocation
-  pub is_made : call_of trace call ≡ Some made
-  pub no_touch : made.touch ≡ false
+  pub request : Query
+  pub asks : request_of trace call ≡ Some request
   pub reply : Response
   pub is_reply : reply_to trace call ≡ Some reply
-  pub differs : reply.answer ≢ answer_in trace.layout (space_from start trace (before call (recorded_order trace))) made.request
+  pub differs : reply.answer ≢ answer_in trace.layout (space_from start trace (before call (recorded_order trace))) request
 
 -- a reply to a call made at the replica, by which more entries are known than the dump has applied
 pub record RestsOnMore (trace : Recording) (replica : ℕ) (dump : Image) : Type 0 where

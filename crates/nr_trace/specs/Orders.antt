@@ -13,7 +13,8 @@ use Rattle.vs_types.specs.declared.request.Query.TheVariants.{Update, Resolve, A
 use Rattle.vs_walk.specs.Walk.{TranslatesAs}
 use Rattle.vs_walk.specs.Dump.{Image}
 use Rattle.nr_trace.specs.Recording.{Recording}
-use Rattle.nr_trace.specs.Calls.{Invocation, call_of, operation_of, address_of, touch_of, IsOrdered, IsUpdate, IsRead, Response, reply_in, reply_to, IsAnswered}
+use Rattle.nr_trace.specs.Calls.{Invocation, call_of, request_of, operation_of, address_of, touch_of, IsOrdered}
+use Rattle.nr_trace.specs.Calls.{IsUpdate, IsRead, Response, reply_in, reply_to, IsAnswered}
 use Rattle.nr_trace.specs.Calls.{Precedes}
 
 -- the members of an order that come before a call
@@ -53,11 +54,10 @@ abbrev pub KeepsPrecedence : Recording → List ℕ → Type 0
 KeepsPrecedence trace order = (first second : ℕ) → Contains order first → Contains order second → Precedes trace first second
     → Contains (before second order) first
 
--- each answer but that to a touch is what the space gives after the updates that come before
+-- each answer to a request is what the space gives after the updates that come before
 abbrev pub HasAnswersFrom : Space → Recording → List ℕ → Type 0
-HasAnswersFrom start trace order = (call : ℕ) (made : Invocation) (reply : Response) → call_of trace call ≡ Some made → made.touch ≡ false
-    → reply_to trace call ≡ Some reply
-    → reply.answer ≡ answer_in trace.layout (space_from start trace (before call order)) made.request
+HasAnswersFrom start trace order = (call : ℕ) (request : Query) (reply : Response) → request_of trace call ≡ Some request
+    → reply_to trace call ≡ Some reply → reply.answer ≡ answer_in trace.layout (space_from start trace (before call order)) request
 
 abbrev pub HasTheAnswers : Recording → List ℕ → Type 0
 HasTheAnswers trace order = HasAnswersFrom no_pages trace order

@@ -7,16 +7,19 @@ use Rattle.vs_types.specs.declared.limits.TheConstants.{LOG_PLACES, CALLS}
 use Rattle.vs_types.specs.Page.{bytes_of}
 use Rattle.vs_types.specs.declared.page.TheConstants.Page.{PHYS_END}
 use Rattle.vs_types.specs.Query.{IsQuery}
+use Rattle.vs_types.specs.declared.depth.Depth.{Depth}
 use Rattle.vs_types.specs.declared.request.Query.TheVariants.{Access}
 use Rattle.vs_types.specs.declared.answer.Answer.{Answer}
 use Rattle.vs_types.specs.declared.page.Size.{Size}
 use Rattle.vs_types.specs.declared.answer.Answer.TheVariants.{Done, Overlap, Full, Removed, NotMapped, Inside, Changed, Mapped, Allowed, Fault}
 use Rattle.vs_walk.specs.Dump.{Image}
-use Rattle.nr_trace.specs.Versions.{KnowsDepth, KnowsQuery, KnowsAnswer, KnowsTouch, least_frames, most_frames, most_start, most_tables, most_threads}
+use Rattle.nr_trace.specs.Versions.{KnowsDepth, KnowsAsked, KnowsAnswer, least_frames, most_frames, most_start, most_tables, most_threads}
 use Rattle.nr_trace.specs.declared.version.Version.{Version}
 use Rattle.nr_trace.specs.declared.version.Version.TheVariants.{Segment}
 use Rattle.nr_trace.specs.declared.event.Event.{Event}
-use Rattle.nr_trace.specs.declared.event.Event.TheVariants.{Call, Reply, Release, Touch}
+use Rattle.nr_trace.specs.declared.event.Event.TheVariants.{Call, Reply}
+use Rattle.nr_trace.specs.declared.event.Asked.{Asked}
+use Rattle.nr_trace.specs.declared.event.Asked.TheVariants.{Request, Touch, Release}
 
 -- the version of the format, the layout of the service, and the page table with which the run begins if that is given; the call number at
 -- each place of the log, the events in order, and a dump of each replica
@@ -45,15 +48,17 @@ IsAnswer (Fault code) = code < 2 ^ 64
 abbrev pub IsMemory : Size → ℕ → Type 0
 IsMemory size phys = (phys % bytes_of size ≡ 0) × (phys + bytes_of size ≤ PHYS_END)
 
+-- what a call asks is well formed at the depth
+abbrev pub IsAskable : Depth → Asked → Type 0
+IsAskable depth (Request request) = IsQuery depth request
+IsAskable depth (Touch address mode access) = IsQuery depth (Access address mode access)
+IsAskable depth (Release size phys) = IsMemory size phys
+
 -- what the version knows: a well-formed call of a replica and a thread that there are; a reply to any call, at any place
 abbrev pub IsEvent : Version → Layout → Event → Type 0
-IsEvent version layout (Call replica thread request) =
-    (replica < layout.replicas) × (thread < layout.threads) × IsQuery layout.depth request × KnowsQuery version request
+IsEvent version layout (Call replica thread asked) =
+    (replica < layout.replicas) × (thread < layout.threads) × IsAskable layout.depth asked × KnowsAsked version asked
 IsEvent version layout (Reply call at answer) = (call < 2 ^ 32) × (at < 2 ^ 32) × IsAnswer answer × KnowsAnswer version answer
-IsEvent version layout (Touch replica thread address mode access) =
-    (replica < layout.replicas) × (thread < layout.threads) × IsQuery layout.depth (Access address mode access) × KnowsTouch version
-IsEvent version layout (Release replica thread size phys) =
-    (replica < layout.replicas) × (thread < layout.threads) × IsMemory size phys × KnowsTouch version
 
 -- as many frames as the version has, with numbers below 2 ^ 40; the root may have any number; without frames all is 0
 pub record IsImage (version : Version) (dump : Image) : Type 0 where

@@ -25,7 +25,9 @@ use Rattle.nr_trace.specs.declared.fields.Counts.{Counts}
 use Rattle.nr_trace.specs.declared.fields.DumpHead.{DumpHead}
 use Rattle.nr_trace.specs.declared.fields.AnswerFields.{AnswerFields}
 use Rattle.nr_trace.specs.declared.event.Event.{Event}
-use Rattle.nr_trace.specs.declared.event.Event.TheVariants.{Call, Reply, Release, Touch}
+use Rattle.nr_trace.specs.declared.event.Event.TheVariants.{Call, Reply}
+use Rattle.nr_trace.specs.declared.event.Asked.{Asked}
+use Rattle.nr_trace.specs.declared.event.Asked.TheVariants.{Request, Touch, Release}
 
 -- the magic, 4 bytes
 abbrev pub magic : Version → List ℕ
@@ -81,6 +83,12 @@ touch_fields address mode access = record (request_fields (queries.Access addres
 abbrev pub release_fields : Size → ℕ → RequestFields
 release_fields size phys = record { kind = 6; size = size_code size; rights = 0; address = 0; physical = phys }
 
+-- the fields of what a call asks
+abbrev pub asked_fields : Asked → RequestFields
+asked_fields (Request request) = request_fields request
+asked_fields (Touch address mode access) = touch_fields address mode access
+asked_fields (Release size phys) = release_fields size phys
+
 -- tag 0, replica, thread, kind, size, rights, a 0, address, physical address
 abbrev pub asked : ℕ → ℕ → RequestFields → List ℕ
 asked replica thread fields =
@@ -89,9 +97,7 @@ asked replica thread fields =
 
 -- 24 bytes: what is asked; or tag 1, answer, size, rights, call, at, four 0, value
 abbrev pub event : Event → List ℕ
-event (Call replica thread request) = asked replica thread (request_fields request)
-event (Touch replica thread address mode access) = asked replica thread (touch_fields address mode access)
-event (Release replica thread size phys) = asked replica thread (release_fields size phys)
+event (Call replica thread what) = asked replica thread (asked_fields what)
 event (Reply call at answer) =
     let fields = answer_fields answer in
     to_be_bytes w8 1 ++ to_be_bytes w8 fields.code ++ to_be_bytes w8 fields.size ++ to_be_bytes w8 fields.rights

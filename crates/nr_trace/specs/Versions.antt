@@ -9,7 +9,9 @@ use Rattle.vs_types.specs.declared.request.Query.TheVariants.{Access}
 use Rattle.vs_types.specs.declared.answer.Answer.{Answer}
 use Rattle.vs_types.specs.declared.answer.Answer.TheVariants.{Allowed, Fault}
 use Rattle.nr_trace.specs.declared.event.Event.{Event}
-use Rattle.nr_trace.specs.declared.event.Event.TheVariants.{Call, Reply, Release, Touch}
+use Rattle.nr_trace.specs.declared.event.Event.TheVariants.{Call, Reply}
+use Rattle.nr_trace.specs.declared.event.Asked.{Asked}
+use Rattle.nr_trace.specs.declared.event.Asked.TheVariants.{Request, Touch, Release}
 use Rattle.nr_trace.specs.declared.version.Version.{Version}
 use Rattle.nr_trace.specs.declared.version.Version.TheVariants.{V1, V2, Segment}
 use Rattle.nr_trace.specs.declared.version.Form.{Form}
@@ -76,12 +78,16 @@ KnowsAnswer V1 (Allowed phys) = ⊥
 KnowsAnswer V1 (Fault code) = ⊥
 KnowsAnswer version answer = ⊤
 
+-- the version knows what a call asks
+abbrev pub KnowsAsked : Version → Asked → Type 0
+KnowsAsked version (Request request) = KnowsQuery version request
+KnowsAsked version (Touch address mode access) = KnowsTouch version
+KnowsAsked version (Release size phys) = KnowsTouch version
+
 -- the version knows what is asked, or answered
 abbrev pub KnowsEvent : Version → Event → Type 0
-KnowsEvent version (Call replica thread request) = KnowsQuery version request
+KnowsEvent version (Call replica thread asked) = KnowsAsked version asked
 KnowsEvent version (Reply call at answer) = KnowsAnswer version answer
-KnowsEvent version (Touch replica thread address mode access) = KnowsTouch version
-KnowsEvent version (Release replica thread size phys) = KnowsTouch version
 
 -- version 1 knows the depth and each event
 abbrev pub FitsFirst : Depth → List Event → Type 0

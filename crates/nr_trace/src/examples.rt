@@ -17,6 +17,7 @@ ghost use Rattle.nr_trace.specs.Recording.{IsEvent};
 ghost use Rattle.nr_trace.specs.Spelling.{spelling, Spells, SpellsSegment};
 ghost use Rattle.nr_trace.specs.Versions.{KnowsDepth};
 ghost use Rattle.nr_trace.specs.declared.event.Event.TheVariants.{Call, Reply};
+ghost use Rattle.nr_trace.specs.declared.event.Asked.TheVariants.{Request};
 ghost use Rattle.nr_trace.specs.declared.version.Version.TheVariants.{V1, V2};
 ghost use Rattle.vs_types.specs.declared.depth.Depth.TheVariants.{Five};
 ghost use Rattle.vs_types.specs.declared.answer.Answer.TheVariants.{Allowed, Done};
@@ -111,8 +112,8 @@ pub fn map_then_access_answers()
 /// The version is one number of the spelling, and an access is in traces of version 2 alone, as are five levels.
 pub fn versions_apart()
     ensures spelling { drop 6 (spelling as_version_2) ≡ drop 6 (spelling map_then_resolve) }
-    ensures second { IsEvent V2 map_then_resolve.layout (Call 0 0 access_it) }
-    ensures first { IsEvent V1 map_then_resolve.layout (Call 0 0 access_it) → ⊥ }
+    ensures second { IsEvent V2 map_then_resolve.layout (Call 0 0 (Request access_it)) }
+    ensures first { IsEvent V1 map_then_resolve.layout (Call 0 0 (Request access_it)) → ⊥ }
     ensures answer { IsEvent V1 map_then_resolve.layout (Reply 2 1 (Allowed 0x1123)) → ⊥ }
     ensures five { KnowsDepth V2 Five }
     ensures not_five { KnowsDepth V1 Five → ⊥ }

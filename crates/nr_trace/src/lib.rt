@@ -17,7 +17,7 @@ mod trace;
 mod version;
 mod writing;
 
-pub use event::Event;
+pub use event::{Asked, Event};
 pub use fault::{Fault, Format};
 pub use layout::TraceLayout;
 pub use reading::{Feed, SegmentFeed, read};

@@ -2,15 +2,15 @@
 
 ghost use Rattle.std.specs.Prelude.{◌≡◌, ◌≤◌, ◌↔◌, IsTrue, IsFalse, All, Any, IfSome, MatchOption};
 ghost use Rattle.vs_walk.specs.Dump.{IsDump};
-ghost use Rattle.nr_trace.specs.Recording.{start_frames, IsEvent, IsImage, IsMemory, IsStart};
-ghost use Rattle.nr_trace.specs.Versions.{most_start};
+ghost use Rattle.nr_trace.specs.Recording.{start_frames, IsAskable, IsEvent, IsImage, IsMemory, IsStart};
+ghost use Rattle.nr_trace.specs.Versions.{most_start, KnowsAsked};
 ghost use Rattle.nr_trace.specs.Parts.{HasFrames, IsFirstOut, LacksFrames};
 
-use crate::event::Event;
+use crate::event::{Asked, Event};
 use crate::layout::TraceLayout;
 use crate::recorded::Recorded;
 use crate::version::Version;
-use vs_types::{Page, Size};
+use vs_types::{Depth, Page, Size};
 use vs_walk::Dump;
 
 /// Whether memory of this size may begin at the physical address: that is a multiple of the size, and the memory ends at or below 2^51.
@@ -24,6 +24,17 @@ pub(crate) fn is_memory(size: Size, phys: u64) -> bool
     phys % bytes == 0
 }
 
+/// Whether what a call asks is well formed at the depth, and known to the version.
+fn is_asked(version: Version, depth: Depth, asked: Asked) -> bool
+    ensures { IsTrue result ↔ IsAskable depth asked × KnowsAsked version asked }
+{
+    match asked {
+        Asked::Request(request) => request.fits(depth) && version.knows_query(request.query()),
+        Asked::Touch(address, _, _) => depth.is_canonical(address) && version.knows_touch(),
+        Asked::Release(size, phys) => is_memory(size, phys) && version.knows_touch(),
+    }
+}
+
 fn is_in_range(version: Version, layout: TraceLayout, event: Event) -> bool
     ensures { IsTrue result ↔ IsEvent version layout event }
 {
@@ -31,35 +42,11 @@ fn is_in_range(version: Version, layout: TraceLayout, event: Event) -> bool
         Event::Call {
             replica,
             thread,
-            request,
-        } => {
-            let depth = layout.depth();
-            replica < layout.replicas()
-                && thread < layout.threads()
-                && request.fits(depth)
-                && version.knows_query(request.query())
-        }
-        Event::Touch {
-            replica,
-            thread,
-            address,
-            ..
+            asked,
         } => {
             replica < layout.replicas()
                 && thread < layout.threads()
-                && layout.depth().is_canonical(address)
-                && version.knows_touch()
-        }
-        Event::Release {
-            replica,
-            thread,
-            size,
-            phys,
-        } => {
-            replica < layout.replicas()
-                && thread < layout.threads()
-                && is_memory(size, phys)
-                && version.knows_touch()
+                && is_asked(version, layout.depth(), asked)
         }
         Event::Reply { answer, .. } => version.knows_answer(answer),
     }

@@ -5,7 +5,7 @@ ghost use Rattle.vs_types.specs.Operation.{IsSomeAction};
 ghost use Rattle.vs_types.specs.Query.{IsSomeQuery};
 ghost use Rattle.vs_types.specs.declared.request.Query.TheVariants as query;
 
-use crate::event::Event;
+use crate::event::{Asked, Event};
 use std::fmt;
 use std::marker::Model;
 use std::mem::size_of;
@@ -58,7 +58,7 @@ impl Kept {
 
     #[inline(always)]
     fn update(replica: u8, thread: u16, action: Action) -> Kept
-        ensures { event_of result ≡ Event.Call replica thread (query.Update action) }
+        ensures { event_of result ≡ Event.Call replica thread (Asked.Request (query.Update action)) }
     {
         match action {
             Action::Map(page) => {
@@ -78,7 +78,7 @@ impl Kept {
 
     #[inline(always)]
     fn call(replica: u8, thread: u16, request: Request) -> Kept
-        ensures { event_of result ≡ Event.Call replica thread request }
+        ensures { event_of result ≡ Event.Call replica thread (Asked.Request request) }
     {
         match request.query() {
             Query::Update(op) => Kept::update(replica, thread, op.action()),
@@ -86,6 +86,19 @@ impl Kept {
             Query::Access(address, mode, access) => {
                 Kept::Access(replica, thread, mode, access, address)
             }
+        }
+    }
+
+    #[inline(always)]
+    fn asked(replica: u8, thread: u16, asked: Asked) -> Kept
+        ensures { event_of result ≡ Event.Call replica thread asked }
+    {
+        match asked {
+            Asked::Request(request) => Kept::call(replica, thread, request),
+            Asked::Touch(address, mode, access) => {
+                Kept::Touch(replica, thread, mode, access, address)
+            }
+            Asked::Release(size, phys) => Kept::Release(replica, thread, size, phys),
         }
     }
 
@@ -109,49 +122,30 @@ impl Kept {
 }
 
 #[inline(always)]
-fn call_of(replica: u8, thread: u16, query: Query) -> Event
-    requires { IsSomeQuery query }
-    ensures { result ≡ Event.Call replica thread query }
+fn made(replica: u8, thread: u16, asked: Asked) -> Event
+    ensures { result ≡ Event.Call replica thread asked }
 {
-    let request = Request::of(query);
     Event::Call {
         replica,
         thread,
-        request,
+        asked,
     }
+}
+
+#[inline(always)]
+fn call_of(replica: u8, thread: u16, query: Query) -> Event
+    requires { IsSomeQuery query }
+    ensures { result ≡ Event.Call replica thread (Asked.Request query) }
+{
+    made(replica, thread, Asked::Request(Request::of(query)))
 }
 
 #[inline(always)]
 fn update_of(replica: u8, thread: u16, action: Action) -> Event
     requires { IsSomeAction action }
-    ensures { result ≡ Event.Call replica thread (query.Update action) }
+    ensures { result ≡ Event.Call replica thread (Asked.Request (query.Update action)) }
 {
     call_of(replica, thread, Query::Update(Op::of(action)))
-}
-
-#[inline(always)]
-fn touch_of(replica: u8, thread: u16, address: u64, mode: Mode, access: Access) -> Event
-    ensures { result ≡ Event.Touch replica thread address mode access }
-{
-    Event::Touch {
-        replica,
-        thread,
-        address,
-        mode,
-        access,
-    }
-}
-
-#[inline(always)]
-fn release_of(replica: u8, thread: u16, size: Size, phys: u64) -> Event
-    ensures { result ≡ Event.Release replica thread size phys }
-{
-    Event::Release {
-        replica,
-        thread,
-        size,
-        phys,
-    }
 }
 
 #[inline(always)]
@@ -198,26 +192,9 @@ impl Recorded {
             Event::Call {
                 replica,
                 thread,
-                request,
+                asked,
             } => Recorded {
-                kept: Kept::call(replica, thread, request),
-            },
-            Event::Touch {
-                replica,
-                thread,
-                address,
-                mode,
-                access,
-            } => Recorded {
-                kept: Kept::Touch(replica, thread, mode, access, address),
-            },
-            Event::Release {
-                replica,
-                thread,
-                size,
-                phys,
-            } => Recorded {
-                kept: Kept::Release(replica, thread, size, phys),
+                kept: Kept::asked(replica, thread, asked),
             },
             Event::Reply { call, at, answer } => Recorded {
                 kept: Kept::reply(call, at, answer),
@@ -251,9 +228,11 @@ impl Recorded {
                 call_of(replica, thread, Query::Access(address, mode, access))
             }
             Kept::Touch(replica, thread, mode, access, address) => {
-                touch_of(replica, thread, address, mode, access)
+                made(replica, thread, Asked::Touch(address, mode, access))
             }
-            Kept::Release(replica, thread, size, phys) => release_of(replica, thread, size, phys),
+            Kept::Release(replica, thread, size, phys) => {
+                made(replica, thread, Asked::Release(size, phys))
+            }
             Kept::Done(call, at) => reply_of(call, at, Answer::Done),
             Kept::Overlap(call, at, base) => reply_of(call, at, Answer::Overlap(base)),
             Kept::Full(call, at, need) => reply_of(call, at, Answer::Full(need)),

@@ -1,12 +1,12 @@
 //! The versions of the format, and what each knows.
 
 ghost use Rattle.std.specs.Prelude.{◌≡◌, ◌↔◌, All, IsTrue};
-ghost use Rattle.nr_trace.specs.Versions.{version_code, FitsFirst, KnowsAnswer, KnowsDepth, KnowsEvent, KnowsQuery, KnowsTouch};
+ghost use Rattle.nr_trace.specs.Versions.{version_code, FitsFirst, KnowsAnswer, KnowsAsked, KnowsDepth, KnowsEvent, KnowsQuery, KnowsTouch};
 ghost use Rattle.nr_trace.specs.Versions.{least_frames, most_frames, most_start, most_tables, most_threads, Follows, IsVersionOf};
 ghost use Rattle.nr_trace.specs.FirstFault.{counts_bytes};
 ghost use Rattle.nr_trace.specs.declared.version.Version.TheVariants.{V1};
 
-use crate::event::Event;
+use crate::event::{Asked, Event};
 use crate::layout::TraceLayout;
 use crate::recorded::Recorded;
 use vs_types::{Answer, Depth, FRAMES, Query, TABLES, THREADS};
@@ -164,14 +164,22 @@ impl Version {
         }
     }
 
+    /// Whether a call in a trace of the version may ask that.
+    pub(crate) fn knows_asked(self, asked: Asked) -> bool
+        ensures { IsTrue result ↔ KnowsAsked self asked }
+    {
+        match asked {
+            Asked::Request(request) => self.knows_query(request.query()),
+            Asked::Touch(_, _, _) | Asked::Release(_, _) => self.knows_touch(),
+        }
+    }
+
     /// Whether a trace of the version may have the event.
     fn knows_event(self, event: Event) -> bool
         ensures { IsTrue result ↔ KnowsEvent self event }
     {
         match event {
-            Event::Call { request, .. } => self.knows_query(request.query()),
-            Event::Touch { .. } => self.knows_touch(),
-            Event::Release { .. } => self.knows_touch(),
+            Event::Call { asked, .. } => self.knows_asked(asked),
             Event::Reply { answer, .. } => self.knows_answer(answer),
         }
     }

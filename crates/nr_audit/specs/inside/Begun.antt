@@ -15,6 +15,7 @@ use Rattle.nr_trace.specs.Recording.{IsRecording, Recording}
 use Rattle.nr_trace.specs.Calls.{operation_of, Answers, IsTouch}
 use Rattle.nr_trace.specs.declared.event.Event.{Event}
 use Rattle.nr_trace.specs.declared.event.Event.TheVariants as events
+use Rattle.nr_trace.specs.declared.event.Asked.TheVariants as askeds
 use Rattle.nr_touch.specs.declared.releases.release.Release.{Release}
 use Rattle.nr_touch.specs.declared.touches.touch.Touch.{Touch}
 use Rattle.nr_trace.specs.declared.fault.Fault.{Fault}
@@ -73,7 +74,7 @@ HasNoneBeyond pages = All (λ page. page.phys + bytes_of page.size ≤ PHYS_END)
 
 -- the touch that is made by one event, of this number, and answered by another, of that number, if these are that; so many entries are known at it
 abbrev pub touch_by : ℕ → ℕ → ℕ → Option Event → Option Event → Option Touch
-touch_by made answered known (Some (events.Touch replica thread address mode access)) (Some (events.Reply call at answer)) =
+touch_by made answered known (Some (events.Call replica thread (askeds.Touch address mode access))) (Some (events.Reply call at answer)) =
     Some (record { made = made; answered = answered; known = known; address = address; mode = mode; access = access; answer = answer })
 touch_by made answered known event reply = None
 
@@ -133,7 +134,7 @@ pub record IsQuiet (segment : Recording) (tail : Tail) : Type 0 where
 
 -- the release that is made by an event, of this number, if it is one; it is answered by nothing but Done, or not
 abbrev pub release_by : ℕ → Bool → Option Event → Option Release
-release_by made done (Some (events.Release replica thread size phys)) = Some (record { made = made; size = size; phys = phys; is_done = done })
+release_by made done (Some (events.Call replica thread (askeds.Release size phys))) = Some (record { made = made; size = size; phys = phys; is_done = done })
 release_by made done event = None
 
 -- the releases that are made below an event, by the event at which they are made

@@ -9,7 +9,7 @@ use Rattle.nr_trace.specs.Calls.{Invocation}
 use Rattle.nr_trace.proofs.LawsOfLists.{In, in_map}
 use Rattle.nr_core.specs.State.{State, Thread, Replica, with_replica}
 use Rattle.nr_core.specs.declared.stage.Collected.{Collected}
-use Rattle.nr_core.specs.inside.Reached.{At, call_at, made_of, calls_of, waiting_in, IsFresh, IsReached}
+use Rattle.nr_core.specs.inside.Reached.{request_made, At, call_at, made_of, calls_of, waiting_in, IsFresh, IsReached}
 use Rattle.nr_core.proofs.reached.Places.{each_set}
 use Rattle.nr_core.proofs.reached.Changes.{replica_changes, still_collected, log_grows}
 use Rattle.nr_core.proofs.reached.Waiting.{waiting_not_collected, same_thread}
@@ -45,7 +45,7 @@ appended state r replica reached there unplaced = log_grows (with_replica state 
       (reached.batches r replica there)
 
   asked : (entry : LogEntry) → (u : Collected) × In u replica.batch × (u.entry ≡ entry)
-      → (made : Invocation) × (call_at state.events entry.call ≡ Some made) × (made.request ≡ Update entry.op)
+      → (made : Invocation) × (call_at state.events entry.call ≡ Some made) × (request_made made ≡ Update entry.op)
   asked entry (u, i, e) =
       let item = reached.collected r replica u there i in (
         made_of state.layout u.thread (Update u.entry.op),

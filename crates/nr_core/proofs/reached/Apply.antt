@@ -18,7 +18,7 @@ use Rattle.nr_core.specs.State.{State, Replica, with_replica}
 use Rattle.nr_core.specs.Steps.{note, with_entry}
 use Rattle.nr_core.specs.declared.stage.Answered.{Answered}
 use Rattle.nr_core.specs.declared.stage.Collected.{Collected}
-use Rattle.nr_core.specs.inside.Reached.{At, call_at, made_of, space_at, shared_in, IsRight, IsCollected, IsReplicaOf, IsReached}
+use Rattle.nr_core.specs.inside.Reached.{request_made, At, call_at, made_of, space_at, shared_in, IsRight, IsCollected, IsReplicaOf, IsReached}
 use Rattle.nr_core.proofs.reached.Places.{at_set, at_mapped}
 use Rattle.nr_core.proofs.reached.Changes.{replica_changes, still_collected}
 
@@ -68,11 +68,11 @@ applied state r replica entry reached there stands less =
       later : Replica
       later = with_entry state replica entry
 
-      same_operation : (action : Action) (made first : Invocation) → made.request ≡ Update action → first.request ≡ Update entry.op → made ≡ first
+      same_operation : (action : Action) (made first : Invocation) → request_made made ≡ Update action → request_made first ≡ Update entry.op → made ≡ first
           → action ≡ entry.op
       same_operation action made first e f one =
           same_Some action entry.op
-          (ap operation_in (sym e) ∙ ap (λ (m : Invocation). operation_in m.request) one ∙ ap operation_in f)
+          (ap operation_in (sym e) ∙ ap (λ (m : Invocation). operation_in (request_made m)) one ∙ ap operation_in f)
 
       base : (u : Collected) → In u replica.batch
           → IsCollected state.layout (shared_in (with_replica state r later)) state.threads r replica.placed u

@@ -7,6 +7,7 @@ use Rattle.vs_types.specs.declared.request.Query.{Query}
 use Rattle.nr_trace.specs.Calls.{Invocation, made_by, Response, reply_in}
 use Rattle.nr_trace.specs.declared.event.Event.{Event}
 use Rattle.nr_trace.specs.declared.event.Event.TheVariants as events
+use Rattle.nr_trace.specs.declared.event.Asked.TheVariants as askeds
 use Rattle.nr_trace.proofs.LawsOfLists.{In, in_map}
 use Rattle.nr_core.specs.State.{State, Thread, home, with_thread}
 use Rattle.nr_core.specs.declared.stage.Stage.TheVariants.{Idle, Called}
@@ -18,7 +19,7 @@ use Rattle.nr_core.proofs.reached.Events.{one_longer, answer_last, last_read, ca
 pub called : (state : State) (t : ℕ) (thread : Thread) (request : Query) (left : List Query) → IsReached state → At state.threads t thread
     → thread.stage ≡ Idle
     → IsReached (record (with_thread state t (record thread { script = left; stage = Called (length state.events) request }))
-    { events = state.events ++ events.Call (home state t) t request ∷ [] })
+    { events = state.events ++ events.Call (home state t) t (askeds.Request request) ∷ [] })
 called state t thread request left reached at is =
     event_recorded state t thread next event reached at (λ c e. cc) calls (λ reply e. absurd (none-some reply e))
     (last_read made_by state.events event made refl) (λ c e. subst (IsFresh state.log) (same_Some (length state.events) c e) fresh) where
@@ -26,7 +27,7 @@ called state t thread request left reached at is =
       next = record thread { script = left; stage = Called (length state.events) request }
 
       event : Event
-      event = events.Call (home state t) t request
+      event = events.Call (home state t) t (askeds.Request request)
 
       made : Invocation
       made = made_of state.layout t request

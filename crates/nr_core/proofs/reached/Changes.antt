@@ -16,7 +16,7 @@ use Rattle.nr_core.specs.State.{State, Thread, Replica, with_thread, with_replic
 use Rattle.nr_core.specs.declared.stage.Collected.{Collected}
 use Rattle.nr_core.specs.declared.stage.Stage.TheVariants.{Taken}
 use Rattle.nr_core.specs.Laws.{IsTaken}
-use Rattle.nr_core.specs.inside.Reached.{At, call_at, RepliesTo, Behind, calls_of, Shared, shared_in, FitsStage, open_in, waiting_in}
+use Rattle.nr_core.specs.inside.Reached.{request_made, At, call_at, RepliesTo, Behind, calls_of, Shared, shared_in, FitsStage, open_in, waiting_in}
 use Rattle.nr_core.specs.inside.Reached.{IsUnanswered, HasOpen, IsFresh, IsCollected, IsReplicaOf, AreCalls, AreCollected, IsReached}
 use Rattle.nr_core.proofs.reached.Places.{each_set, at_set, at_other, at_front, at_either}
 use Rattle.nr_core.proofs.reached.Growth.{Longer, Grows, read_within, read_stays, replies_have_calls, behind_completed, behind_more, space_stays}
@@ -198,7 +198,8 @@ completed_rises state n reached more l = record {
 -- ---- the log
 
 pub record AreNew (state : State) (entries : List LogEntry) : Type 0 where
-  pub asked : (entry : LogEntry) → In entry entries → (made : Invocation) × (call_at state.events entry.call ≡ Some made) × (made.request ≡ Update entry.op)
+  pub asked : (entry : LogEntry) → In entry entries
+      → (made : Invocation) × (call_at state.events entry.call ≡ Some made) × (request_made made ≡ Update entry.op)
   pub once : IsDistinct nat_eq (calls_of entries)
   pub fresh : (call : ℕ) → In call (calls_of entries) → IsFresh state.log call
   pub not_waiting : (t : ℕ) (thread : Thread) (call : ℕ) → At state.threads t thread → waiting_in thread.stage ≡ Some call → In call (calls_of entries) → ⊥
@@ -248,7 +249,7 @@ log_grows state entries reached new = record {
   }
 
   each : (place : ℕ) (entry : LogEntry) → At state.log place entry ⊎ ((length state.log ≤ place) × In entry entries)
-      → (made : Invocation) × (call_at state.events entry.call ≡ Some made) × (made.request ≡ Update entry.op) × Behind state.events entry.call place
+      → (made : Invocation) × (call_at state.events entry.call ≡ Some made) × (request_made made ≡ Update entry.op) × Behind state.events entry.call place
   each place entry (inl e) = reached.entries place entry e
   each place entry (inr (l, i)) =
       let (made, e, asks) = new.asked entry i in (

@@ -1,27 +1,38 @@
 -- No fault of the events by themselves, of the log or of a reply's place.
-use Rattle.std.proofs.Common.{◌≡◌, ℕ, List, Some, refl, ap, sym, ◌∙◌, arith}
+use Rattle.std.proofs.Common.{◌≡◌, ℕ, List, Some, option_and_then, refl, ap, sym, ◌∙◌, arith}
 use Rattle.std.proofs.lemmas.List.{length-map}
-use Rattle.std.proofs.lemmas.Option.{same_Some}
 use Rattle.vs_types.specs.declared.log_entry.LogEntry.{LogEntry}
 use Rattle.vs_types.specs.declared.op.Action.{Action}
 use Rattle.vs_walk.specs.Dump.{Image}
-use Rattle.nr_trace.specs.Calls.{Invocation, operation_in, operation_of, IsUpdate}
+use Rattle.nr_trace.specs.Calls.{Invocation, operation_in, operation_of, request_in, IsUpdate}
 use Rattle.nr_trace.specs.Faults.{HasFault}
 use Rattle.nr_trace.specs.Laws.{HasCleanLog}
+use Rattle.nr_trace.specs.declared.event.Asked.{Asked}
+use Rattle.nr_trace.specs.declared.event.Asked.TheVariants as askeds
 use Rattle.nr_trace.specs.declared.version.Version.{Version}
 use Rattle.nr_trace.specs.declared.fault.Fault.TheVariants.{ThreadOpen, NotPlaced, PastLog}
 use Rattle.nr_trace.proofs.LawsOfCalls.{is_some_from, the_some}
 use Rattle.nr_core.proofs.reached.Places.{at_mapped}
 use Rattle.nr_core.specs.State.{State}
-use Rattle.nr_core.specs.inside.Reached.{At, call_at, calls_of, IsReached}
-use Rattle.nr_core.proofs.reached.Growth.{then_parts, then_from, at_within_reach}
+use Rattle.nr_core.specs.inside.Reached.{query_in, request_made, At, call_at, calls_of, IsReached}
+use Rattle.nr_core.proofs.reached.Growth.{at_within_reach}
 use Rattle.nr_core.proofs.reached.Recorded.{recording, answered_to, answers_to, at_map, distinct_apart}
+
+-- what a call does is what its request does
+operation_asked : (asked : Asked) → option_and_then operation_in (request_in asked) ≡ operation_in (query_in asked)
+operation_asked (askeds.Request request) = refl
+operation_asked asked = refl
+
+operation_is : (state : State) (version : Version) (dumps : List Image) (call : ℕ) (made : Invocation) → call_at state.events call ≡ Some made
+    → operation_of (recording state version dumps) call ≡ operation_in (request_made made)
+operation_is state version dumps call made e =
+    ap (λ o. option_and_then operation_in (option_and_then (λ (m : Invocation). request_in m.asked) o)) e ∙ operation_asked made.asked
 
 -- the operation of an update among the calls
 pub operation_at : (state : State) (version : Version) (dumps : List Image) (call : ℕ) (made : Invocation) (action : Action)
-    → call_at state.events call ≡ Some made → operation_in made.request ≡ Some action
+    → call_at state.events call ≡ Some made → operation_in (request_made made) ≡ Some action
     → operation_of (recording state version dumps) call ≡ Some action
-operation_at state version dumps call made action e f = then_from (λ (m : Invocation). operation_in m.request) (call_at state.events call) made action e f
+operation_at state version dumps call made action e f = operation_is state version dumps call made e ∙ f
 
 pub clean_log : (state : State) (version : Version) (dumps : List Image) → IsReached state → HasCleanLog (recording state version dumps)
 clean_log state version dumps reached = record {
@@ -49,13 +60,11 @@ clean_log state version dumps reached = record {
   not_placed index (reply, e, (is_update, out)) =
       let (made, before, is, right) = reached.replies index reply e in
       let (action, asks) = the_some (operation_of (recording state version dumps) reply.call) is_update in
-      let (first, is_first, operation) = then_parts (λ (m : Invocation). operation_in m.request) (call_at state.events reply.call) action asks in
-      let one : first ≡ made = same_Some first made (sym is_first ∙ is) in
-      let (entry, at, same) = right.placed action (ap (λ (m : Invocation). operation_in m.request) (sym one) ∙ operation) in
+      let (entry, at, same) = right.placed action (sym (operation_is state version dumps reply.call made is) ∙ asks) in
       out (at_mapped (λ (x : LogEntry). x.call) state.log reply.at entry at ∙ ap Some same)
 
   past_log : (index : ℕ) → HasFault (recording state version dumps) (PastLog index) → ⊥
   past_log index (reply, e, (is_read, past)) =
       let (made, before, is, right) = reached.replies index reply e in
       let long = length-map state.log (λ (entry : LogEntry). entry.call) in
-      omega (arith, at_within_reach made.request reply.at, right.known, reached.completed, long, past)
+      omega (arith, at_within_reach (request_made made) reply.at, right.known, reached.completed, long, past)

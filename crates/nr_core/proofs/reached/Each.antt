@@ -10,6 +10,7 @@ use Rattle.vs_types.specs.declared.request.Query.TheVariants.{Update, Resolve, A
 use Rattle.nr_trace.specs.Calls.{operation_in}
 use Rattle.nr_trace.specs.Orders.{answer_in}
 use Rattle.nr_trace.specs.declared.event.Event.TheVariants as events
+use Rattle.nr_trace.specs.declared.event.Asked.TheVariants as askeds
 use Rattle.nr_trace.proofs.LawsOfLists.{In}
 use Rattle.nr_core.specs.Run.{after_steps}
 use Rattle.nr_core.specs.State.{State, Thread, Replica, home, tail, has_applied_all, with_thread, with_replica}
@@ -55,7 +56,7 @@ holder_after P state t go h =
 pub record AfterEach (P : State → Type 0) (state : State) (t : ℕ) : Type 0 where
   pub call : (thread : Thread) (request : Query) (left : List Query) → At state.threads t thread → thread.stage ≡ Idle
       → P (record (with_thread state t (record thread { script = left; stage = Called (length state.events) request }))
-      { events = state.events ++ events.Call (home state t) t request ∷ [] })
+      { events = state.events ++ events.Call (home state t) t (askeds.Request request) ∷ [] })
   pub post : (thread : Thread) (call : ℕ) (action : Action) → At state.threads t thread → thread.stage ≡ Called call (Update action)
       → P (with_thread state t (record thread { stage = Posted call action }))
   pub take : (r : ℕ) (thread : Thread) (replica : Replica) → At state.threads t thread → At state.replicas r replica → is_none thread.holds ≡ true

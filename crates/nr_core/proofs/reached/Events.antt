@@ -8,7 +8,7 @@ use Rattle.nr_trace.specs.Calls.{Invocation, made_by, Response, reply_in}
 use Rattle.nr_trace.specs.declared.event.Event.{Event}
 use Rattle.nr_core.specs.State.{State, Thread, with_thread}
 use Rattle.nr_core.specs.declared.stage.Stage.TheVariants.{Taken}
-use Rattle.nr_core.specs.inside.Reached.{HasOpen, IsUnanswered, open_in}
+use Rattle.nr_core.specs.inside.Reached.{request_made, HasOpen, IsUnanswered, open_in}
 use Rattle.nr_core.specs.inside.Reached.{At, call_at, reply_at, RepliesTo, Behind, Shared, shared_in, FitsStage, IsRight, IsFresh, waiting_in, AreCalls}
 use Rattle.nr_core.specs.inside.Reached.{IsReached}
 use Rattle.nr_core.proofs.reached.Places.{each_set, at_front, at_last, at_end, at_other}
@@ -163,8 +163,8 @@ event_recorded state t thread next event reached at not_taken calls right fits f
       (made, subst (λ n. reply.call < n) (sym l) before, read_stays made_by state.events later reply.call made longer is, right_stays grows before h)
 
   entered : (place : ℕ) (entry : LogEntry)
-      → (made : Invocation) × (call_at state.events entry.call ≡ Some made) × (made.request ≡ Update entry.op) × Behind state.events entry.call place
-      → (made : Invocation) × (call_at later entry.call ≡ Some made) × (made.request ≡ Update entry.op) × Behind later entry.call place
+      → (made : Invocation) × (call_at state.events entry.call ≡ Some made) × (request_made made ≡ Update entry.op) × Behind state.events entry.call place
+      → (made : Invocation) × (call_at later entry.call ≡ Some made) × (request_made made ≡ Update entry.op) × Behind later entry.call place
   entered place entry (made, is, asks, behind) = (
     made,
     read_stays made_by state.events later entry.call made longer is,

@@ -15,7 +15,7 @@ use Rattle.nr_trace.specs.declared.event.Event.{Event}
 use Rattle.nr_core.specs.State.{Replica}
 use Rattle.nr_core.specs.declared.stage.Stage.{Stage}
 use Rattle.nr_core.specs.declared.stage.Stage.TheVariants.{Called, Posted, Ready, Looked, HasRead}
-use Rattle.nr_core.specs.inside.Reached.{At, call_at, reply_at, RepliesTo, reach, Behind, space_at, Shared, IsRight, FitsStage, AreReplies}
+use Rattle.nr_core.specs.inside.Reached.{request_made, At, call_at, reply_at, RepliesTo, reach, Behind, space_at, Shared, IsRight, FitsStage, AreReplies}
 use Rattle.nr_core.proofs.reached.Places.{same_front}
 
 -- ---- calls and replies by their events
@@ -72,7 +72,7 @@ behind_stays events later call n longer have l h index reply made less e f =
     let g = read_stood reply_in events later index reply longer (omega arith) e in
     let (first, is) = have index reply g in
     let same : first ≡ made = same_Some first made (sym (read_stays made_by events later reply.call first longer is) ∙ f) in
-    subst (λ (m : Invocation). reach m.request reply.at ≤ n) same (h index reply first less g is)
+    subst (λ (m : Invocation). reach (request_made m) reply.at ≤ n) same (h index reply first less g is)
 
 pub behind_more : (events : List Event) (call m n : ℕ) → m ≤ n → Behind events call m → Behind events call n
 behind_more events call m n l h index reply made less e f = let k = h index reply made less e f in omega arith
@@ -82,7 +82,7 @@ pub behind_completed : (layout : Layout) (shared : Shared) (call : ℕ) → AreR
 behind_completed layout shared call replies index reply made less e f =
     let (first, before, is, right) = replies index reply e in
     let same : first ≡ made = same_Some first made (sym is ∙ f) in
-    subst (λ (m : Invocation). reach m.request reply.at ≤ shared.completed) same right.known
+    subst (λ (m : Invocation). reach (request_made m) reply.at ≤ shared.completed) same right.known
 
 -- ---- answers
 
@@ -113,8 +113,8 @@ right_stays {layout} {before} {after} {made} {call} {n} grows made_before right 
   placed = λ action e. let (entry, at, is) = right.placed action e in (entry, grows.entry_stays n entry at, is);
   known = omega (arith, right.known, grows.rises);
   here = λ replica at. let (first, there, less) = grows.goes_on made.replica replica at in omega (arith, right.here first there, less);
-  answered = right.answered ∙ ap (λ space. answer_in layout space made.request) (space_stays layout before.log after.log n grows.entry_stays
-      (omega (arith, right.known, at_within_reach made.request n, grows.within)));
+  answered = right.answered ∙ ap (λ space. answer_in layout space (request_made made)) (space_stays layout before.log after.log n grows.entry_stays
+      (omega (arith, right.known, at_within_reach (request_made made) n, grows.within)));
   in_time = behind_stays before.events after.events call n grows.longer grows.have (omega (arith, made_before)) right.in_time;
 }
 

@@ -1,22 +1,22 @@
 -- The recording of a state, by the state's parts.
-use Rattle.std.proofs.Common.{◌≡◌, ℕ, zero, suc, ◌+◌, ◌<◌, ◌≤◌, Bool, true, false, List, [], ◌∷◌, map, nat_eq, Option, Some, None, option_and_then, refl, ap}
+use Rattle.std.proofs.Common.{◌≡◌, ℕ, zero, suc, ◌+◌, ◌<◌, ◌≤◌, List, [], ◌∷◌, map, nat_eq, Option, Some, None, option_and_then, refl, ap}
 use Rattle.std.proofs.Common.{sym, subst, arith}
-use Rattle.std.specs.Prelude.{if◌then◌else◌}
 use Rattle.std.specs.List.{IsDistinct, AllZip}
 use Rattle.std.specs.Option.{option_map_or}
 use Rattle.std.proofs.lemmas.Option.{same_Some, none-some}
 use Rattle.vs_types.specs.declared.op.Action.{Action}
-use Rattle.vs_types.specs.declared.request.Query.{Query}
 use Rattle.vs_walk.specs.Dump.{Image}
 use Rattle.nr_trace.specs.Recording.{Recording}
-use Rattle.nr_trace.specs.Calls.{Invocation, operation_in, Response, Answers}
+use Rattle.nr_trace.specs.Calls.{Invocation, operation_in, request_in, unordered_in, Response, Answers}
 use Rattle.nr_trace.specs.Orders.{known_by}
+use Rattle.nr_trace.specs.declared.event.Asked.{Asked}
+use Rattle.nr_trace.specs.declared.event.Asked.TheVariants as askeds
 use Rattle.nr_trace.specs.declared.version.Version.{Version}
 use Rattle.nr_trace.proofs.LawsOfCalls.{reply_that_answers, answers_from}
 use Rattle.nr_trace.proofs.LawsOfLists.{absent_not_in}
 use Rattle.nr_core.specs.State.{State}
 use Rattle.nr_core.specs.Run.{IsRecordingOf, IsDumpOfReplica}
-use Rattle.nr_core.specs.inside.Reached.{At, call_at, RepliesTo, reach, calls_of}
+use Rattle.nr_core.specs.inside.Reached.{query_in, request_made, At, call_at, RepliesTo, reach, calls_of}
 use Rattle.nr_core.proofs.reached.Places.{in_at}
 
 abbrev pub recording : State → Version → List Image → Recording
@@ -66,23 +66,21 @@ distinct_apart (y ∷ xs) zero (suc j) x h l e f =
 distinct_apart (y ∷ xs) (suc i) (suc j) x h l e f = distinct_apart xs i j x h.1 (omega arith) e f
 
 -- no more is known by a reply than what its answer reaches; by one to a touch nothing is
-known_by_call : (made : Invocation) (at : ℕ)
-    → option_map_or (λ (action : Action). at + 1) (operation_in made.request)
-    (option_map_or (λ (touch : Query). 0) (if made.touch then Some made.request else None) at) ≤ reach made.request at
-known_by_call made at = by_kind (operation_in made.request) made.touch where
-  by_kind : (operation : Option Action) (touch : Bool)
-      → option_map_or (λ (action : Action). at + 1) operation (option_map_or (λ (touch : Query). 0) (if touch then Some made.request else None) at)
-      ≤ option_map_or (λ (action : Action). at + 1) operation at
-  by_kind (Some action) touch = omega arith
-  by_kind None true = omega arith
-  by_kind None false = omega arith
+known_by_call : (asked : Asked) (at : ℕ)
+    → option_map_or (λ (action : Action). at + 1) (option_and_then operation_in (request_in asked))
+    (option_map_or (λ (touch : Asked). 0) (unordered_in asked) at) ≤ reach (query_in asked) at
+known_by_call (askeds.Request request) at = by_kind (operation_in request) where
+  by_kind : (operation : Option Action) → option_map_or (λ (action : Action). at + 1) operation at ≤ option_map_or (λ (action : Action). at + 1) operation at
+  by_kind (Some action) = omega arith
+  by_kind None = omega arith
+known_by_call asked at = omega arith
 
 pub known_is_reach : (state : State) (version : Version) (dumps : List Image) (reply : Response) (made : Invocation)
     → call_at state.events reply.call ≡ Some made
-    → known_by (recording state version dumps) reply ≤ reach made.request reply.at
+    → known_by (recording state version dumps) reply ≤ reach (request_made made) reply.at
 known_is_reach state version dumps reply made e =
     let given : (o : Option Invocation) → ℕ =
-    λ o. option_map_or (λ (action : Action). reply.at + 1) (option_and_then (λ (m : Invocation). operation_in m.request) o)
-    (option_map_or (λ (touch : Query). 0) (option_and_then (λ (m : Invocation). if m.touch then Some m.request else None) o) reply.at) in
+    λ o. option_map_or (λ (action : Action). reply.at + 1) (option_and_then operation_in (option_and_then (λ (m : Invocation). request_in m.asked) o))
+    (option_map_or (λ (touch : Asked). 0) (option_and_then (λ (m : Invocation). unordered_in m.asked) o) reply.at) in
     let same : known_by (recording state version dumps) reply ≡ given (Some made) = ap given e in
-    subst (λ (n : ℕ). n ≤ reach made.request reply.at) (sym same) (known_by_call made reply.at)
+    subst (λ (n : ℕ). n ≤ reach (request_made made) reply.at) (sym same) (known_by_call made.asked reply.at)

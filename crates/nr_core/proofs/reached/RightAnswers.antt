@@ -1,21 +1,24 @@
 -- No answer is wrong.
-use Rattle.std.proofs.Common.{◌≡◌, ℕ, zero, suc, inl, inr, List, [], ◌∷◌, take, map, Some, refl, ap, sym, ◌∙◌}
+use Rattle.std.proofs.Common.{◌≡◌, ℕ, zero, suc, inl, inr, List, [], ◌∷◌, take, map, Some, option_and_then, refl, ap, sym, ◌∙◌}
 use Rattle.std.proofs.lemmas.List.{take-map}
-use Rattle.std.proofs.lemmas.Option.{same_Some}
+use Rattle.std.proofs.lemmas.Option.{none-some, same_Some}
+use Rattle.vs_types.specs.declared.request.Query.{Query}
 use Rattle.vs_types.specs.Space.{no_pages}
 use Rattle.vs_types.specs.Step.{after_all}
 use Rattle.vs_types.specs.declared.log_entry.LogEntry.{LogEntry}
 use Rattle.vs_walk.specs.Dump.{Image}
-use Rattle.nr_trace.specs.Calls.{Invocation, operation_in, operation_of, reply_of}
+use Rattle.nr_trace.specs.Calls.{Invocation, operation_in, operation_of, request_in, reply_of}
 use Rattle.nr_trace.specs.Orders.{before, space_after, operations, answer_in, recorded_order}
 use Rattle.nr_trace.specs.Faults.{HasFault}
+use Rattle.nr_trace.specs.declared.event.Asked.{Asked}
+use Rattle.nr_trace.specs.declared.event.Asked.TheVariants as askeds
 use Rattle.nr_trace.specs.declared.version.Version.{Version}
 use Rattle.nr_trace.specs.declared.fault.Fault.TheVariants.{WrongAnswer}
-use Rattle.nr_trace.proofs.LawsOfCalls.{reply_event, answered_stands, ordered_from_made}
+use Rattle.nr_trace.proofs.LawsOfCalls.{reply_event, answered_stands, ordered_from_request}
 use Rattle.nr_trace.proofs.LawsOfLists.{In}
 use Rattle.nr_trace.proofs.LawsOfOrder.{space_before}
 use Rattle.nr_core.specs.State.{State}
-use Rattle.nr_core.specs.inside.Reached.{At, call_at, calls_of, space_at, IsReached}
+use Rattle.nr_core.specs.inside.Reached.{query_in, At, call_at, calls_of, space_at, IsReached}
 use Rattle.nr_core.proofs.reached.Places.{at_in}
 use Rattle.nr_core.proofs.reached.Recorded.{recording}
 use Rattle.nr_core.proofs.reached.CleanLog.{operation_at, clean_log}
@@ -46,6 +49,11 @@ space_of_log state version dumps n reached =
           let (made, is, asks, behind) = reached.entries place entry at in
           operation_at state version dumps entry.call made entry.op is (ap operation_in asks)
 
+-- a call that asks for a request asks for its own
+asks_itself : (asked : Asked) (request : Query) → request_in asked ≡ Some request → query_in asked ≡ request
+asks_itself (askeds.Request own) request e = same_Some own request e
+asks_itself asked request e = absurd (none-some request e)
+
 pub none_wrong : (state : State) (version : Version) (dumps : List Image) (call : ℕ) → IsReached state
     → HasFault (recording state version dumps) (WrongAnswer call) → ⊥
 none_wrong state version dumps call reached h = h.differs (is_right (reply_event trace call h.reply h.is_reply)) where
@@ -53,14 +61,15 @@ none_wrong state version dumps call reached h = h.differs (is_right (reply_event
   trace = recording state version dumps
 
   is_right : (index : ℕ) × (reply_of trace index ≡ Some h.reply) × (h.reply.call ≡ call)
-      → h.reply.answer ≡ answer_in state.layout (space_after trace (before call (recorded_order trace))) h.made.request
+      → h.reply.answer ≡ answer_in state.layout (space_after trace (before call (recorded_order trace))) h.request
   is_right (index, e, same) =
       let (made, earlier, is, right) = reached.replies index h.reply e in
-      let one : made ≡ h.made = same_Some made h.made (sym is ∙ ap (call_at state.events) same ∙ h.is_made) in
+      let own : call_at state.events call ≡ Some made = ap (call_at state.events) (sym same) ∙ is in
+      let one = asks_itself made.asked h.request (sym (ap (option_and_then (λ (m : Invocation). request_in m.asked)) own) ∙ h.asks) in
       let stands = answered_stands trace call h.reply (clean_log state version dumps reached)
-      (ordered_from_made trace call h.made h.is_made h.no_touch) h.is_reply in
+      (ordered_from_request trace call h.request h.asks) h.is_reply in
       right.answered
-      ∙ ap (λ (m : Invocation). answer_in state.layout (space_at state.layout state.log h.reply.at) m.request) one
-      ∙ ap (λ space. answer_in state.layout space h.made.request)
+      ∙ ap (λ (q : Query). answer_in state.layout (space_at state.layout state.log h.reply.at) q) one
+      ∙ ap (λ space. answer_in state.layout space h.request)
       (sym (space_before no_pages trace h.reply.at call (clean_log state version dumps reached) stands.1 stands.0
       ∙ space_of_log state version dumps h.reply.at reached))

@@ -9,10 +9,12 @@ use Rattle.vs_types.specs.declared.answer.Answer.{Answer}
 use Rattle.vs_types.specs.declared.log_entry.LogEntry.{LogEntry}
 use Rattle.vs_types.specs.declared.op.Action.{Action}
 use Rattle.vs_types.specs.declared.request.Query.{Query}
-use Rattle.vs_types.specs.declared.request.Query.TheVariants.{Update}
+use Rattle.vs_types.specs.declared.request.Query.TheVariants.{Update, Resolve, Access}
 use Rattle.nr_trace.specs.Calls.{Invocation, made_by, operation_in, Response, reply_in}
 use Rattle.nr_trace.specs.Orders.{answer_in}
 use Rattle.nr_trace.specs.declared.event.Event.{Event}
+use Rattle.nr_trace.specs.declared.event.Asked.{Asked}
+use Rattle.nr_trace.specs.declared.event.Asked.TheVariants as askeds
 use Rattle.nr_trace.proofs.LawsOfLists.{In}
 use Rattle.nr_core.specs.State.{State, Thread, Replica}
 use Rattle.nr_core.specs.Laws.{IsTaken}
@@ -38,7 +40,16 @@ RepliesTo events index call = (reply : Response) × (reply_at events index ≡ S
 
 -- the call of a thread with this request
 abbrev pub made_of : Layout → ℕ → Query → Invocation
-made_of layout t request = record { replica = t % layout.replicas; thread = t; request = request; touch = false }
+made_of layout t request = record { replica = t % layout.replicas; thread = t; asked = askeds.Request request }
+
+-- what a call asks, as a request: nothing but requests is asked here
+abbrev pub query_in : Asked → Query
+query_in (askeds.Request request) = request
+query_in (askeds.Touch address mode access) = Access address mode access
+query_in (askeds.Release size phys) = Resolve phys
+
+abbrev pub request_made : Invocation → Query
+request_made made = query_in made.asked
 
 -- how many entries are known by an answer that is at a place: up to the update's own, or those that the read saw
 abbrev pub reach : Query → ℕ → ℕ
@@ -47,7 +58,7 @@ reach request at = option_map_or (λ action. at + 1) (operation_in request) at
 -- by each reply before the call at most so many entries are known
 abbrev pub Behind : List Event → ℕ → ℕ → Type 0
 Behind events call n = (index : ℕ) (reply : Response) (made : Invocation) → index < call → reply_at events index ≡ Some reply
-    → call_at events reply.call ≡ Some made → reach made.request reply.at ≤ n
+    → call_at events reply.call ≡ Some made → reach (request_made made) reply.at ≤ n
 
 -- the calls of log entries, and the space after the first n of them
 abbrev pub calls_of : List LogEntry → List ℕ
@@ -69,10 +80,10 @@ shared_in state = record { events = state.events; log = state.log; completed = s
 -- an answer of a call: an update's place has the call; all entries that are known by it are completed, and applied at the
 -- call's replica; it is what the space gives before its place; and no more were known when the call was made
 pub record IsRight (layout : Layout) (shared : Shared) (made : Invocation) (call at : ℕ) (answer : Answer) : Type 0 where
-  pub placed : (action : Action) → operation_in made.request ≡ Some action → (entry : LogEntry) × At shared.log at entry × (entry.call ≡ call)
-  pub known : reach made.request at ≤ shared.completed
-  pub here : (replica : Replica) → At shared.replicas made.replica replica → reach made.request at ≤ replica.applied
-  pub answered : answer ≡ answer_in layout (space_at layout shared.log at) made.request
+  pub placed : (action : Action) → operation_in (request_made made) ≡ Some action → (entry : LogEntry) × At shared.log at entry × (entry.call ≡ call)
+  pub known : reach (request_made made) at ≤ shared.completed
+  pub here : (replica : Replica) → At shared.replicas made.replica replica → reach (request_made made) at ≤ replica.applied
+  pub answered : answer ≡ answer_in layout (space_at layout shared.log at) (request_made made)
   pub in_time : Behind shared.events call at
 
 -- what a stage says of the call, its request and its answer
@@ -152,7 +163,7 @@ AreReplies layout shared = (index : ℕ) (reply : Response) → reply_at shared.
 -- the log's entries are calls of updates, and none is known at a place after its own when it is called
 abbrev pub AreEntries : List Event → List LogEntry → Type 0
 AreEntries events log = (place : ℕ) (entry : LogEntry) → At log place entry
-    → (made : Invocation) × (call_at events entry.call ≡ Some made) × (made.request ≡ Update entry.op) × Behind events entry.call place
+    → (made : Invocation) × (call_at events entry.call ≡ Some made) × (request_made made ≡ Update entry.op) × Behind events entry.call place
 
 abbrev pub AreCollected : Layout → Shared → List Thread → Type 0
 AreCollected layout shared threads = (r : ℕ) (replica : Replica) (update : Collected) → At shared.replicas r replica → In update replica.batch

@@ -6,7 +6,7 @@ ghost use Rattle.nr_core.specs.inside.Views.{MayCall};
 
 use crate::stage::Stage;
 use crate::state::Core;
-use nr_trace::{Event, Recorded};
+use nr_trace::{Asked, Event, Recorded};
 use vs_types::{Memory, Query, Request};
 
 impl Core {
@@ -55,7 +55,7 @@ impl Core {
         let event = Event::Call {
             replica,
             thread,
-            request,
+            asked: Asked::Request(request),
         };
         if self.events.push(Recorded::of(event)).is_err() {
             return Err(Memory);

@@ -1,10 +1,13 @@
 -- The first fault of a segment, by the space before it alone. No public clause cites this file.
-use Rattle.std.specs.Prelude.{◌≡◌, ℕ, ◌↔◌, Bool, List, Contains, Option, Some, ⊤}
+use Rattle.std.specs.Prelude.{◌≡◌, ℕ, ◌↔◌, Bool, List, Contains, Option, ⊤}
 use Rattle.vs_types.specs.Space.{Space}
+use Rattle.vs_types.specs.declared.access.Access.{Access}
+use Rattle.vs_types.specs.declared.access.Mode.{Mode}
 use Rattle.vs_types.specs.declared.answer.Answer.{Answer}
 use Rattle.nr_trace.specs.Recording.{Recording}
 use Rattle.nr_trace.specs.Faults.{Earlier, HasFaultFrom}
 use Rattle.nr_trace.specs.Laws.{HasCleanLog}
+use Rattle.nr_trace.specs.declared.event.Asked.TheVariants as askeds
 use Rattle.nr_trace.specs.declared.fault.Fault.{Fault}
 use Rattle.nr_trace.specs.declared.fault.Fault.TheVariants.{StartMissing, StartShared, StartReserved, StartStray, StartBeyond, StartDiffers, Stale, Reachable}
 use Rattle.nr_touch.specs.Looks.{IsLookLeft}
@@ -18,7 +21,6 @@ use Rattle.nr_audit.specs.Releases.{HasRelease}
 use Rattle.nr_audit.specs.Touches.{HasTouch}
 use Rattle.nr_explain.specs.ChainEvidence.{found_page, release_at}
 use Rattle.nr_explain.specs.ChainFacts.{is_mapped}
-use Rattle.nr_explain.specs.Facts.{asked_address}
 use Rattle.nr_explain.specs.Progress.{ChainState, Seen, run_in, IsSeenOf}
 use Rattle.nr_explain.specs.inside.Reading.{left_seen, space_seen}
 use Rattle.nr_explain.specs.declared.chain.evidence.Leading.{Leading}
@@ -26,9 +28,10 @@ use Rattle.nr_explain.specs.declared.chain.evidence.Leading.TheVariants.{Within,
 use Rattle.nr_explain.specs.declared.chain.evidence.Reach.{Reach}
 use Rattle.nr_explain.specs.declared.chain.evidence.WhyWrong.{WhyWrong}
 use Rattle.nr_explain.specs.declared.chain.evidence.WhyWrong.TheVariants.{Otherwise, Reached}
+use Rattle.nr_explain.specs.declared.chain.evidence.StaleTouch.{StaleTouch}
 use Rattle.nr_explain.specs.declared.chain.evidence.SegmentEvidence.{SegmentEvidence}
 use Rattle.nr_explain.specs.declared.chain.evidence.SegmentEvidence.TheVariants as evidence
-use Rattle.nr_explain.specs.declared.trace.evidence.Given.{Given}
+use Rattle.nr_explain.specs.declared.chain.evidence.Given.{Given}
 use Rattle.nr_explain.specs.declared.trace.evidence.RecordedCall.{RecordedCall}
 
 -- what each fault but those of touches and releases says of a segment, where that is the space before it, or no segment is
@@ -78,6 +81,11 @@ abbrev pub AreEarlierLeft : List Left → ℕ → ℕ → Bool → List Answer �
 AreEarlierLeft changes address first with_page looks =
     (look : Answer) → Contains looks look ↔ ((first ≡ 0) × (is_mapped look ≡ with_page) × IsLookLeft changes address look)
 
+-- the looks that are said of a stale touch are those of its address
+abbrev pub HasEarlierLeft : List Left → StaleTouch → Type 0
+HasEarlierLeft changes stale = (address : ℕ) (mode : Mode) (access : Access) → stale.call.asked ≡ askeds.Touch address mode access
+    → AreEarlierLeft changes address stale.first (found_page stale.lag) stale.earlier.items
+
 -- an address that leads somewhere behind the segments before has such a look
 abbrev pub IsLeftAs : List Left → ℕ → Answer → Leading → Type 0
 IsLeftAs changes address look (Within entries taken) = ⊤
@@ -97,10 +105,9 @@ abbrev pub ShowsReachLeft : Option Seen → Space → Recording → RecordedCall
 ShowsReachLeft seen start segment call (Otherwise reply) = ⊤
 ShowsReachLeft seen start segment call (Reached reply reach) =
     IsReachLeft (left_seen seen) reach
-    × ((given : Given) → call.gives ≡ Some given → IsLeastSeen seen start segment call.event given reach.address)
+    × ((given : Given) → call.asked ≡ askeds.Release given.size given.phys → IsLeastSeen seen start segment call.event given reach.address)
 
 abbrev pub ShowsLeft : Option Seen → Space → Recording → SegmentEvidence → Type 0
 ShowsLeft seen start segment (evidence.Reachable wrong) = ShowsReachLeft seen start segment wrong.call wrong.why
-ShowsLeft seen start segment (evidence.Stale stale) =
-    AreEarlierLeft (left_seen seen) (asked_address stale.call.request) stale.first (found_page stale.lag) stale.earlier.items
+ShowsLeft seen start segment (evidence.Stale stale) = HasEarlierLeft (left_seen seen) stale
 ShowsLeft seen start segment shown = ⊤

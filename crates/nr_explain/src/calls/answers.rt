@@ -6,7 +6,7 @@ ghost use Rattle.nr_trace.specs.declared.fault.Fault.TheVariants.{WrongAnswer};
 ghost use Rattle.nr_explain.specs.Evidence.{IsOtherAnswer};
 ghost use Rattle.nr_explain.specs.Facts.{address_about, asked_address};
 
-use crate::search::events::call_at;
+use crate::search::events::{call_at, request_at};
 use crate::search::memory::memory_of;
 use crate::search::nearest::nearest;
 use crate::search::replies::first_reply;
@@ -47,14 +47,15 @@ pub(crate) fn other_answer(alloc: Global, trace: &Trace, index: u32) -> Result<O
     ensures is { IfOk result (IsOtherAnswer trace.now) }
 {
     let call = call_at(trace, index);
+    let request = request_at(trace, index);
     let Some(reply) = first_reply(trace, index, trace.events().len() as u32) else {
         unreachable!()
     };
-    let wanted = answer_after(trace, no_pages(alloc, trace), call.request, reply.at)?;
-    let address = address_about(call.request, wanted);
+    let wanted = answer_after(trace, no_pages(alloc, trace), request, reply.at)?;
+    let address = address_about(request, wanted);
     let last = last_look(trace, no_pages(alloc, trace), address, reply.at)?;
     let empty = no_pages(alloc, trace);
-    let right = nearest(trace, empty, call.request, reply.answer, reply.at, reply.at)?;
+    let right = nearest(trace, empty, request, reply.answer, reply.at, reply.at)?;
     let then = space_at(alloc, trace, reply.at)?;
     let memory = memory_of(&then, reply.answer)?;
     Ok(OtherAnswer {

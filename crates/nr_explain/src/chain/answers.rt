@@ -7,7 +7,7 @@ ghost use Rattle.nr_audit.specs.Verdict.{space_of};
 ghost use Rattle.nr_explain.specs.Evidence.{IsOtherAnswerFrom};
 
 use crate::calls::answers::address_about;
-use crate::search::events::call_at;
+use crate::search::events::{call_at, request_at};
 use crate::search::memory::memory_of;
 use crate::search::nearest::nearest;
 use crate::search::replies::reply_to;
@@ -34,24 +34,18 @@ pub(crate) fn other_answer(
     ensures is { IfOk result (IsOtherAnswerFrom first.now.space segment.now) }
 {
     let call = call_at(segment, index);
+    let request = request_at(segment, index);
     let Some(reply) = reply_to(segment, index) else {
         unreachable!()
     };
     let tables = segment.layout().tables();
     let space = copy(alloc, tables, first)?;
-    let wanted = answer_after(segment, space, call.request, reply.at)?;
-    let address = address_about(call.request, wanted);
+    let wanted = answer_after(segment, space, request, reply.at)?;
+    let address = address_about(request, wanted);
     let again = copy(alloc, tables, first)?;
     let last = last_look(segment, again, address, reply.at)?;
     let before = copy(alloc, tables, first)?;
-    let right = nearest(
-        segment,
-        before,
-        call.request,
-        reply.answer,
-        reply.at,
-        reply.at,
-    )?;
+    let right = nearest(segment, before, request, reply.answer, reply.at, reply.at)?;
     let begun = copy(alloc, tables, first)?;
     let then = space_from(segment, begun, reply.at)?;
     let memory = memory_of(&then, reply.answer)?;

@@ -9,7 +9,7 @@ use crate::trace::evidence::{
 };
 use crate::trace::nearby::RightAfter;
 use crate::units::BadUnit;
-use vs_types::{Answer, Page};
+use vs_types::{Answer, Page, Size};
 use vs_walk::Walk;
 
 /// What gave an address its look as a segment begins.
@@ -122,6 +122,14 @@ pub struct StaleTouch {
     pub later: Option<PlacedUpdate>,
     /// After how many entries of its segment's log the space gives its answer: nearest below the fewest, and nearest above the most.
     pub right: RightAfter,
+}
+
+/// Memory that a release gives to somebody else.
+#[derive(Clone, Copy, Debug, PartialEq, Eq)]
+pub struct Given {
+    pub size: Size,
+    /// The physical address at which it begins.
+    pub phys: u64,
 }
 
 /// When an address leads into some memory.

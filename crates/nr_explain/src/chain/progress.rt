@@ -14,7 +14,7 @@ use crate::chain::explanation::ChainCounts;
 use crate::chain::spaces::{begin_first, start_space};
 use nr_audit::{Met, Order, Past, Totals};
 use nr_touch::{Tail, space_after};
-use nr_trace::{Event, Trace, TraceLayout};
+use nr_trace::{Asked, Event, Trace, TraceLayout};
 use std::alloc::Global;
 use vs_plain::PlainSpace;
 use vs_types::Memory;
@@ -77,7 +77,13 @@ pub(crate) fn sums_of(last: &Option<Progress>) -> Sums
 fn is_touch(event: Event) -> bool
     ensures { result ≡ is_touch event }
 {
-    matches!(event, Event::Touch { .. })
+    matches!(
+        event,
+        Event::Call {
+            asked: Asked::Touch(_, _, _),
+            ..
+        }
+    )
 }
 
 /// How many touches a segment has.
@@ -94,7 +100,13 @@ fn touches_in(segment: &Trace) -> usize
 fn is_release(event: Event) -> bool
     ensures { result ≡ is_release event }
 {
-    matches!(event, Event::Release { .. })
+    matches!(
+        event,
+        Event::Call {
+            asked: Asked::Release(_, _),
+            ..
+        }
+    )
 }
 
 /// How many releases a segment has.

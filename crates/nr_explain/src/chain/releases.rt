@@ -17,7 +17,7 @@ ghost use Rattle.nr_explain.specs.inside.Reaches.{FindsBefore, FindsLeading, Fin
 ghost use Rattle.nr_explain.specs.inside.Reaches.{IsLeastReach, IsReachWithin, IsWhyOf};
 ghost use Rattle.nr_explain.specs.inside.Reading.{all_states, left_seen, FitsSegment, HasSoundTail};
 
-use crate::chain::evidence::{Leading, Moment, OpenUpdate, Reach, WhyWrong, WrongRelease};
+use crate::chain::evidence::{Given, Leading, Moment, OpenUpdate, Reach, WhyWrong, WrongRelease};
 use crate::chain::origins::is_same;
 use crate::chain::progress::Progress;
 use crate::chain::touches::looks_before;
@@ -25,10 +25,10 @@ use crate::chain::windows::{Window, window_in};
 use crate::search::events::call_at;
 use crate::search::replies::reply_to;
 use crate::search::spaces::{apply_place, space_from, update_at};
-use crate::trace::evidence::{Given, RecordedReply};
+use crate::trace::evidence::RecordedReply;
 use nr_audit::copy;
 use nr_touch::{Release, Tail, reached};
-use nr_trace::Trace;
+use nr_trace::{Asked, Trace};
 use std::alloc::Global;
 use vs_plain::PlainSpace;
 use vs_types::{Answer, Memory};
@@ -397,9 +397,10 @@ pub(crate) fn wrong_release(
         ShowsReachLeft (all_states last.now) first.now.space segment.now wrong.call wrong.why) }
 {
     let call = call_at(segment, index);
-    let Some(given) = call.gives else {
+    let Asked::Release(size, phys) = call.asked else {
         unreachable!()
     };
+    let given = Given { size, phys };
     let why = why_wrong(alloc, last, segment, first, index, given)?;
     Ok(WrongRelease { call, why })
 }

@@ -7,13 +7,11 @@ ghost use Rattle.nr_audit.specs.Verdict.{space_of};
 ghost use Rattle.nr_touch.specs.Looks.{AreLooksLeft};
 ghost use Rattle.nr_explain.specs.ChainEvidence.{fewest, found_page, AreLooks, IsLater, IsMissed, IsOpenBefore, IsStaleTouch};
 ghost use Rattle.nr_explain.specs.ChainFacts.{IsFaultOfNoPage, IsLagOf};
-ghost use Rattle.nr_explain.specs.Facts.{asked_address};
 ghost use Rattle.nr_explain.specs.Nearest.{IsNearest};
-ghost use Rattle.nr_explain.specs.inside.Firsts.{AreEarlierLeft, IsTouchToShow};
+ghost use Rattle.nr_explain.specs.inside.Firsts.{AreEarlierLeft, HasEarlierLeft, IsTouchToShow};
 ghost use Rattle.nr_explain.specs.inside.Reading.{all_states, left_seen, space_seen, FitsSegment, HasSoundTail};
 ghost use Rattle.nr_explain.specs.inside.Windows.{is_found, HasReached, IsWindowOf};
 
-use crate::calls::answers::asked_address;
 use crate::chain::evidence::{Lag, MissedUpdate, Moment, OpenUpdate, StaleTouch};
 use crate::chain::origins::is_same;
 use crate::chain::progress::Progress;
@@ -26,7 +24,7 @@ use crate::search::spaces::{apply_place, update_at};
 use crate::trace::evidence::{PlacedUpdate, RecordedCall};
 use crate::trace::nearby::RightAfter;
 use nr_audit::copy;
-use nr_trace::Trace;
+use nr_trace::{Asked, Trace};
 use std::alloc::Global;
 use vs_plain::PlainSpace;
 use vs_types::{Answer, Memory, Query, Request, fault_code};
@@ -130,15 +128,15 @@ fn earlier_looks(
     Ok(looks)
 }
 
-/// Whether an access that asks this would be answered so where no page has its address.
-fn is_fault_of_none(request: Request, answer: Answer) -> bool
-    ensures { IsTrue result ↔ IsFaultOfNoPage request answer }
+/// Whether a touch that asks this would be answered so where no page has its address.
+fn is_fault_of_none(asked: Asked, answer: Answer) -> bool
+    ensures { IsTrue result ↔ IsFaultOfNoPage asked answer }
 {
-    match request.query() {
-        Query::Access(_, mode, access) => {
+    match asked {
+        Asked::Touch(_, mode, access) => {
             is_same(answer, Answer::Fault(fault_code(false, mode, access)))
         }
-        Query::Update(_) | Query::Resolve(_) => false,
+        Asked::Request(_) | Asked::Release(_, _) => false,
     }
 }
 
@@ -146,7 +144,7 @@ fn is_fault_of_none(request: Request, answer: Answer) -> bool
 fn lag_of(segment: &Trace, call: &RecordedCall, answer: Answer) -> Option<Lag>
     ensures { IsLagOf segment.now call.now answer result }
 {
-    if !is_fault_of_none(call.request, answer) {
+    if !is_fault_of_none(call.asked, answer) {
         return None;
     }
     let (known, shown) = known_at(segment, call.replica, call.event);
@@ -258,15 +256,15 @@ pub(crate) fn stale_touch(
     requires touch { IsTouchToShow (space_seen (all_states last.now)) segment.now index }
     ensures event { IfOk result (λ stale. stale.call.event ≡ index) }
     ensures is { IfOk result (IsStaleTouch first.now.space segment.now) }
-    ensures left { IfOk result (λ stale. AreEarlierLeft (left_seen (all_states last.now))
-        (asked_address stale.call.request) stale.first (found_page stale.lag)
-        stale.earlier.items) }
+    ensures left { IfOk result (HasEarlierLeft (left_seen (all_states last.now))) }
 {
     let call = call_at(segment, index);
+    let Asked::Touch(address, mode, access) = call.asked else {
+        unreachable!()
+    };
     let Some(reply) = reply_to(segment, index) else {
         unreachable!()
     };
-    let address = asked_address(call.request);
     let lag = lag_of(segment, &call, reply.answer);
     let with_page = lag.is_none();
     let window = window_in(
@@ -284,7 +282,8 @@ pub(crate) fn stale_touch(
     let earlier = earlier_looks(alloc, last, address, window.first, with_page)?;
     let missed = missed_update(segment, window.first);
     let still_open = open_update(segment, window);
-    let right = nearest_to(alloc, segment, first, call.request, reply.answer, window)?;
+    let request = Request::of(Query::Access(address, mode, access));
+    let right = nearest_to(alloc, segment, first, request, reply.answer, window)?;
     let later = later_update(segment, window, right);
     Ok(StaleTouch {
         call,

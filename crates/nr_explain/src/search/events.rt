@@ -1,14 +1,14 @@
 //! Events of a trace by their indexes.
 
-ghost use Rattle.std.specs.Prelude.{◌≡◌, ◌<◌, ◌↔◌, ◌+◌, MatchOption, IfSome, IsTrue, None, slice_get, is_some};
+ghost use Rattle.std.specs.Prelude.{◌≡◌, ◌<◌, ◌↔◌, ◌+◌, MatchOption, IfSome, IsSome, IsTrue, None, Some, slice_get, is_some};
 ghost use Rattle.vs_types.specs.Query.{IsQuery};
-ghost use Rattle.nr_trace.specs.Calls.{call_of, operation_of, reply_of, touch_of, IsCall};
+ghost use Rattle.nr_trace.specs.Calls.{call_of, operation_of, reply_of, request_of, touch_of, IsCall};
 ghost use Rattle.nr_trace.specs.Orders.{known_by};
-ghost use Rattle.nr_trace.specs.Recording.{IsMemory};
+ghost use Rattle.nr_trace.specs.Recording.{IsAskable};
 ghost use Rattle.nr_explain.specs.Facts.{response, IsCallOf, IsReplyOf};
 ghost use Rattle.nr_explain.specs.inside.Searches.{IsReply};
 
-use crate::trace::evidence::{Given, RecordedCall, RecordedReply};
+use crate::trace::evidence::{RecordedCall, RecordedReply};
 use nr_audit::request_of;
 use nr_trace::{Event, Trace};
 use vs_types::{Query, Request};
@@ -20,65 +20,24 @@ pub(crate) fn event_at(trace: &Trace, index: u32) -> Option<Event>
     Some(trace.events().get(index as usize)?.event())
 }
 
-/// A call that asks this and gives no memory away.
-fn asked(event: u32, replica: u8, thread: u16, request: Request, touch: bool) -> RecordedCall
-    ensures { result ≡ record {
-      event = event;
-      replica = replica;
-      thread = thread;
-      request = request;
-      touch = touch;
-      gives = None;
-    } }
-{
-    RecordedCall {
-        event,
-        replica,
-        thread,
-        request,
-        touch,
-        gives: None,
-    }
-}
-
 /// The call of this number, if there is one.
 pub(crate) fn find_call(trace: &Trace, index: u32) -> Option<RecordedCall>
     ensures is { MatchOption result (call_of trace.now index ≡ None)
         (λ call. IsCallOf trace.now call × (call.event ≡ index)) }
-    ensures well_formed { IfSome result (λ call. IsQuery trace.now.layout.depth call.request) }
-    ensures memory { IfSome result
-        (λ call. IfSome call.gives (λ given. IsMemory given.size given.phys)) }
+    ensures askable { IfSome result (λ call. IsAskable trace.now.layout.depth call.asked) }
 {
     match trace.events().get(index as usize)?.event() {
         Event::Call {
             replica,
             thread,
-            request,
-        } => Some(asked(index, replica, thread, request, false)),
-        Event::Touch {
-            replica,
-            thread,
-            address,
-            mode,
-            access,
-        } => {
-            let request = Request::of(Query::Access(address, mode, access));
-            Some(asked(index, replica, thread, request, true))
-        }
-        Event::Release {
-            replica,
-            thread,
-            size,
-            phys,
+            asked,
         } => Some(RecordedCall {
             event: index,
             replica,
             thread,
-            request: Request::of(Query::Resolve(0)),
-            touch: true,
-            gives: Some(Given { size, phys }),
+            asked,
         }),
-        Event::Reply { .. } => None,
+        _ => None,
     }
 }
 
@@ -87,14 +46,14 @@ pub(crate) fn find_reply(trace: &Trace, index: u32) -> Option<RecordedReply>
     ensures { MatchOption result (reply_of trace.now index ≡ None)
         (λ reply. IsReplyOf trace.now reply × (reply.event ≡ index)) }
 {
-    match event_at(trace, index)? {
-        Event::Call { .. } | Event::Touch { .. } | Event::Release { .. } => None,
+    match trace.events().get(index as usize)?.event() {
         Event::Reply { call, at, answer } => Some(RecordedReply {
             event: index,
             call,
             at,
             answer,
         }),
+        _ => None,
     }
 }
 
@@ -103,11 +62,22 @@ pub fn call_at(trace: &Trace, index: u32) -> RecordedCall
     requires { IsCall trace.now index }
     ensures is { IsCallOf trace.now result }
     ensures event { result.event ≡ index }
-    ensures well_formed { IsQuery trace.now.layout.depth result.request }
-    ensures memory { IfSome result.gives (λ given. IsMemory given.size given.phys) }
+    ensures askable { IsAskable trace.now.layout.depth result.asked }
 {
     match find_call(trace, index) {
         Some(call) => call,
+        None => unreachable!(),
+    }
+}
+
+/// What an update or a read asks.
+pub(crate) fn request_at(trace: &Trace, index: u32) -> Request
+    requires { IsSome (request_of trace.now index) }
+    ensures asks { request_of trace.now index ≡ Some result }
+    ensures well_formed { IsQuery trace.now.layout.depth result }
+{
+    match request_of(trace, index) {
+        Some(request) => request,
         None => unreachable!(),
     }
 }
@@ -129,7 +99,7 @@ fn is_touch(trace: &Trace, call: u32) -> bool
     ensures { result ≡ is_some (touch_of trace.now call) }
 {
     match event_at(trace, call) {
-        Some(event) => matches!(event, Event::Touch { .. } | Event::Release { .. }),
+        Some(event) => event.is_unordered(),
         None => false,
     }
 }

@@ -2,17 +2,9 @@
 
 use crate::trace::nearby::{NamedMemory, RightAfter};
 use crate::units::BadUnit;
-use nr_trace::Event;
-use vs_types::{Answer, Request, Size};
+use nr_trace::{Asked, Event};
+use vs_types::Answer;
 use vs_walk::Walk;
-
-/// Memory that a release gives to somebody else.
-#[derive(Clone, Copy, Debug, PartialEq, Eq)]
-pub struct Given {
-    pub size: Size,
-    /// The physical address at which it begins.
-    pub phys: u64,
-}
 
 /// A call as a trace has it. Its number is the index of its event.
 #[derive(Clone, Copy, Debug, PartialEq, Eq)]
@@ -20,12 +12,7 @@ pub struct RecordedCall {
     pub event: u32,
     pub replica: u8,
     pub thread: u16,
-    /// What it asks; of a release, which asks nothing, a resolve of address 0.
-    pub request: Request,
-    /// Whether it is a touch or a release. A trace has none.
-    pub touch: bool,
-    /// What it gives away, if it is a release.
-    pub gives: Option<Given>,
+    pub asked: Asked,
 }
 
 /// A reply as a trace has it.

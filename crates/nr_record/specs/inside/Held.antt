@@ -4,7 +4,8 @@ use Rattle.vs_types.specs.Config.{Layout}
 use Rattle.vs_types.specs.declared.request.Query.{Query}
 use Rattle.nr_trace.specs.Recording.{IsEvent}
 use Rattle.nr_trace.specs.declared.event.Event.{Event}
-use Rattle.nr_trace.specs.declared.event.Event.TheVariants.{Call, Release, Reply, Touch}
+use Rattle.nr_trace.specs.declared.event.Event.TheVariants.{Call, Reply}
+use Rattle.nr_trace.specs.declared.event.Asked.TheVariants as askeds
 use Rattle.nr_trace.specs.declared.version.Version.TheVariants.{V2}
 use Rattle.nr_record.specs.Stamps.{Rise}
 use Rattle.nr_record.specs.Pen.{PenState, call_by, calls_in, home_of, stamped, stamps_of}
@@ -17,10 +18,9 @@ HasMade layout thread made call = (request : Query) × Contains made (stamped ca
 
 -- a call of the thread, or the reply to one; a pen makes no touches and no releases
 abbrev pub IsOwn : Layout → ℕ → List Stamped → Event → Type 0
-IsOwn layout thread made (Call replica caller request) = (replica ≡ home_of layout thread) × (caller ≡ thread)
-IsOwn layout thread made (Touch replica caller address mode access) = ⊥
-IsOwn layout thread made (Release replica caller size phys) = ⊥
+IsOwn layout thread made (Call replica caller (askeds.Request request)) = (replica ≡ home_of layout thread) × (caller ≡ thread)
 IsOwn layout thread made (Reply call at answer) = HasMade layout thread made call
+IsOwn layout thread made event = ⊥
 
 abbrev pub waits : Option ℕ → ℕ
 waits None = 0

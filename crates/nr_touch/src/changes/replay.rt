@@ -1,15 +1,16 @@
 //! The replay of the log, which lists what changes.
 
-ghost use Rattle.std.specs.Prelude.{◌≡◌, ◌+◌, ◌≤◌, ◌^◌, ◌++◌, length, map, replicate, Contains, IfOk, IfSome, OnOk, Option};
+ghost use Rattle.std.specs.Prelude.{◌≡◌, ◌+◌, ◌≤◌, ◌^◌, ◌++◌, length, map, option_and_then, replicate, Contains, IfOk, IfSome, OnOk, Option};
 ghost use Rattle.std.specs.Option.{option_map};
 ghost use Rattle.std.specs.List.Sorted.{IsNonDecreasingBy};
 ghost use Rattle.vs_types.specs.Operation.{IsAction};
 ghost use Rattle.vs_types.specs.Page.{bytes_of};
 ghost use Rattle.vs_types.specs.Query.{IsQuery};
 ghost use Rattle.vs_types.specs.declared.depth.Depth.{Depth};
-ghost use Rattle.nr_trace.specs.Calls.{operation_in, operation_of, reply_in};
+ghost use Rattle.nr_trace.specs.Calls.{operation_in, operation_of, reply_in, request_in};
 ghost use Rattle.nr_trace.specs.Laws.{HasCleanLog};
 ghost use Rattle.nr_trace.specs.Orders.{space_from};
+ghost use Rattle.nr_trace.specs.Recording.{IsAskable};
 ghost use Rattle.nr_touch.specs.declared.changes.change.PlacedChange.{PlacedChange};
 ghost use Rattle.nr_touch.specs.Replies.{AreReplies};
 ghost use Rattle.nr_touch.specs.inside.Changes.{AreChanges, listed};
@@ -17,7 +18,7 @@ ghost use Rattle.nr_touch.specs.inside.Columns.{IsNumbered};
 ghost use Rattle.nr_touch.specs.inside.Undo.{LeadsTo};
 
 use crate::changes::change::{Change, PlacedChange, apply, number_of};
-use nr_trace::{Event, Trace};
+use nr_trace::{Asked, Event, Trace};
 use std::alloc::Global;
 use vs_plain::PlainSpace;
 use vs_plain::laws::pages_are_a_space;
@@ -35,16 +36,25 @@ fn operation_in(request: Request) -> Option<Op>
     }
 }
 
+/// What a call that asks this does, where it is an update.
+fn operation_asked(asked: Asked) -> Option<Op>
+    ensures asks { result ≡ option_and_then operation_in (request_in asked) }
+    ensures well_formed { (depth : Depth) → IsAskable depth asked → IfSome result (IsAction depth) }
+{
+    match asked {
+        Asked::Request(request) => operation_in(request),
+        Asked::Touch(_, _, _) | Asked::Release(_, _) => None,
+    }
+}
+
 /// The operation of a call, where it is an update.
 fn operation_of(trace: &Trace, call: u32) -> Option<Op>
     ensures asks { result ≡ operation_of trace.now call }
     ensures well_formed { IfSome result (IsAction trace.now.layout.depth) }
 {
     match trace.events().get(call as usize)?.event() {
-        Event::Call { request, .. } => operation_in(request),
-        Event::Touch { .. } => None,
-        Event::Release { .. } => None,
-        Event::Reply { .. } => None,
+        Event::Call { asked, .. } => operation_asked(asked),
+        _ => None,
     }
 }
 
@@ -61,9 +71,7 @@ fn answered_in(event: Event) -> Option<u32>
 {
     match event {
         Event::Reply { call, .. } => Some(call),
-        Event::Call { .. } => None,
-        Event::Touch { .. } => None,
-        Event::Release { .. } => None,
+        _ => None,
     }
 }
 

@@ -14,7 +14,7 @@ use crate::changes::change::PlacedChange;
 use crate::changes::history::number_at;
 use crate::changes::replay::replies;
 use crate::releases::lives::{Life, Lives};
-use nr_trace::{Event, Trace};
+use nr_trace::{Asked, Event, Trace};
 use std::alloc::Global;
 use vs_types::{Memory, Size};
 
@@ -72,10 +72,11 @@ fn touched(trace: &Trace, call: u32) -> Option<u64>
     ensures { result ≡ touched trace.now call }
 {
     match trace.events().get(call as usize)?.event() {
-        Event::Touch { address, .. } => Some(address),
-        Event::Call { .. } => None,
-        Event::Release { .. } => None,
-        Event::Reply { .. } => None,
+        Event::Call {
+            asked: Asked::Touch(address, _, _),
+            ..
+        } => Some(address),
+        _ => None,
     }
 }
 

@@ -6,20 +6,21 @@ use Rattle.vs_types.specs.declared.op.Action.TheVariants.{Map, Unmap, Protect}
 use Rattle.vs_types.specs.declared.request.Query.TheVariants.{Update, Resolve, Access}
 use Rattle.vs_types.specs.declared.answer.Answer.TheVariants.{Done, Overlap, Full, Removed, NotMapped, Inside, Changed, Mapped, Allowed, Fault}
 use Rattle.nr_trace.specs.declared.event.Event.{Event}
-use Rattle.nr_trace.specs.declared.event.Event.TheVariants.{Call, Reply, Release, Touch}
+use Rattle.nr_trace.specs.declared.event.Event.TheVariants.{Call, Reply}
+use Rattle.nr_trace.specs.declared.event.Asked.TheVariants.{Request, Release, Touch}
 use Rattle.nr_trace.specs.declared.recorded.Kept.{Kept}
 use Rattle.nr_trace.specs.declared.recorded.Kept.TheVariants as kept
 use Rattle.nr_trace.specs.declared.recorded.Recorded.TheInside as of_recorded
 
 abbrev pub event_of : Kept → Event
 event_of (kept.Map replica thread size rights base phys) =
-    Call replica thread (Update (Map (record { base = base; phys = phys; size = size; rights = rights })))
-event_of (kept.Unmap replica thread base) = Call replica thread (Update (Unmap base))
-event_of (kept.Protect replica thread rights base) = Call replica thread (Update (Protect base rights))
-event_of (kept.Resolve replica thread address) = Call replica thread (Resolve address)
-event_of (kept.Access replica thread mode access address) = Call replica thread (Access address mode access)
-event_of (kept.Touch replica thread mode access address) = Touch replica thread address mode access
-event_of (kept.Release replica thread size phys) = Release replica thread size phys
+    Call replica thread (Request (Update (Map (record { base = base; phys = phys; size = size; rights = rights }))))
+event_of (kept.Unmap replica thread base) = Call replica thread (Request (Update (Unmap base)))
+event_of (kept.Protect replica thread rights base) = Call replica thread (Request (Update (Protect base rights)))
+event_of (kept.Resolve replica thread address) = Call replica thread (Request (Resolve address))
+event_of (kept.Access replica thread mode access address) = Call replica thread (Request (Access address mode access))
+event_of (kept.Touch replica thread mode access address) = Call replica thread (Touch address mode access)
+event_of (kept.Release replica thread size phys) = Call replica thread (Release size phys)
 event_of (kept.Done call at) = Reply call at Done
 event_of (kept.Overlap call at base) = Reply call at (Overlap base)
 event_of (kept.Full call at need) = Reply call at (Full need)
@@ -32,13 +33,13 @@ event_of (kept.Allowed call at phys) = Reply call at (Allowed phys)
 event_of (kept.Fault call at code) = Reply call at (Fault code)
 
 abbrev pub kept_of : Event → Kept
-kept_of (Call replica thread (Update (Map page))) = kept.Map replica thread page.size page.rights page.base page.phys
-kept_of (Call replica thread (Update (Unmap base))) = kept.Unmap replica thread base
-kept_of (Call replica thread (Update (Protect base rights))) = kept.Protect replica thread rights base
-kept_of (Call replica thread (Resolve address)) = kept.Resolve replica thread address
-kept_of (Call replica thread (Access address mode access)) = kept.Access replica thread mode access address
-kept_of (Touch replica thread address mode access) = kept.Touch replica thread mode access address
-kept_of (Release replica thread size phys) = kept.Release replica thread size phys
+kept_of (Call replica thread (Request (Update (Map page)))) = kept.Map replica thread page.size page.rights page.base page.phys
+kept_of (Call replica thread (Request (Update (Unmap base)))) = kept.Unmap replica thread base
+kept_of (Call replica thread (Request (Update (Protect base rights)))) = kept.Protect replica thread rights base
+kept_of (Call replica thread (Request (Resolve address))) = kept.Resolve replica thread address
+kept_of (Call replica thread (Request (Access address mode access))) = kept.Access replica thread mode access address
+kept_of (Call replica thread (Touch address mode access)) = kept.Touch replica thread mode access address
+kept_of (Call replica thread (Release size phys)) = kept.Release replica thread size phys
 kept_of (Reply call at Done) = kept.Done call at
 kept_of (Reply call at (Overlap base)) = kept.Overlap call at base
 kept_of (Reply call at (Full need)) = kept.Full call at need
@@ -52,10 +53,8 @@ kept_of (Reply call at (Fault code)) = kept.Fault call at code
 
 -- the request of a call is well formed at some depth
 abbrev pub IsKept : Event → Type 0
-IsKept (Call replica thread request) = IsSomeQuery request
-IsKept (Touch replica thread address mode access) = ⊤
-IsKept (Release replica thread size phys) = ⊤
-IsKept (Reply call at answer) = ⊤
+IsKept (Call replica thread (Request request)) = IsSomeQuery request
+IsKept event = ⊤
 
 same : (k : Kept) → kept_of (event_of k) ≡ k
 same (kept.Map replica thread size rights base phys) = refl

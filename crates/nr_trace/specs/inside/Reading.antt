@@ -1,7 +1,7 @@
 -- What the parts of the reader find.
 use Rattle.std.specs.Prelude.{◌≡◌, ◌≢◌, ℕ, ◌+◌, ◌^◌, ◌<◌, ◌++◌, List, length, flat_map, All}
 use Rattle.vs_types.specs.Config.{Layout}
-use Rattle.vs_types.specs.Fields.{HasFields, request_fields}
+use Rattle.vs_types.specs.Fields.{HasFields}
 use Rattle.vs_types.specs.Query.{IsQuery}
 use Rattle.vs_types.specs.declared.access.Mode.{Mode}
 use Rattle.vs_types.specs.declared.access.Access.{Access as AccessKind}
@@ -12,18 +12,17 @@ use Rattle.vs_types.specs.declared.request.Query.TheVariants.{Access}
 use Rattle.vs_types.specs.declared.answer.Answer.{Answer}
 use Rattle.vs_types.specs.declared.page.Size.{Size}
 use Rattle.vs_walk.specs.Dump.{OpenImage}
-use Rattle.nr_trace.specs.Versions.{KnowsQuery, KnowsAnswer, KnowsTouch}
-use Rattle.nr_trace.specs.Recording.{IsAnswer, IsEvent, IsMemory}
-use Rattle.nr_trace.specs.Spelling.{answer_fields, release_fields, touch_fields, counts, log_word, event, dump_head, frame_words}
+use Rattle.nr_trace.specs.Versions.{KnowsQuery, KnowsAnswer, KnowsAsked}
+use Rattle.nr_trace.specs.Recording.{IsAnswer, IsAskable, IsEvent, IsMemory}
+use Rattle.nr_trace.specs.Spelling.{answer_fields, asked_fields, release_fields, touch_fields, counts, log_word, event, dump_head, frame_words}
 use Rattle.nr_trace.specs.FirstFault.{IsCounts, IsDumpHead, refusal_at}
 use Rattle.nr_trace.specs.declared.version.Version.{Version}
 use Rattle.nr_trace.specs.declared.fields.AnswerFields.{AnswerFields}
 use Rattle.nr_trace.specs.declared.fields.Counts.{Counts}
 use Rattle.nr_trace.specs.declared.fields.DumpHead.{DumpHead}
 use Rattle.nr_trace.specs.declared.event.Event.{Event}
-use Rattle.nr_trace.specs.declared.event.Event.TheVariants.{Call, Release, Touch}
-use Rattle.nr_trace.specs.declared.reading.events.Asked.{Asked}
-use Rattle.nr_trace.specs.declared.reading.events.Asked.TheVariants as askeds
+use Rattle.nr_trace.specs.declared.event.Asked.{Asked}
+use Rattle.nr_trace.specs.declared.event.Asked.TheVariants as askeds
 use Rattle.nr_trace.specs.declared.fault.Format.TheVariants.{BadEvent}
 use Rattle.nr_trace.specs.declared.refusal.Refusal.{Refusal}
 use Rattle.nr_trace.specs.declared.refusal.TraceUnit.TheVariants as units
@@ -33,29 +32,14 @@ pub record HasAnswerFields (fields : AnswerFields) (answer : Answer) : Type 0 wh
   pub in_range : IsAnswer answer
   pub fields_are : fields ≡ answer_fields answer
 
--- what the version knows of these fields: a request that is well formed at this depth, and an answer in range
+-- a request that is well formed at this depth, with these fields, if the version knows it
 pub record IsRequestIn (version : Version) (depth : Depth) (fields : RequestFields) (request : Query) : Type 0 where
   pub has : HasFields depth fields request
   pub known : KnowsQuery version request
 
--- what is asked by a call, a touch or a release, and the event that a thread asks it at a replica
-abbrev pub asked_by : ℕ → ℕ → Asked → Event
-asked_by replica thread (askeds.Request request) = Call replica thread request
-asked_by replica thread (askeds.Touch address mode access) = Touch replica thread address mode access
-asked_by replica thread (askeds.Release size phys) = Release replica thread size phys
-
-abbrev pub asked_fields : Asked → RequestFields
-asked_fields (askeds.Request request) = request_fields request
-asked_fields (askeds.Touch address mode access) = touch_fields address mode access
-asked_fields (askeds.Release size phys) = release_fields size phys
-
-abbrev pub IsAsked : Version → Depth → Asked → Type 0
-IsAsked version depth (askeds.Request request) = IsQuery depth request × KnowsQuery version request
-IsAsked version depth (askeds.Touch address mode access) = IsQuery depth (Access address mode access) × KnowsTouch version
-IsAsked version depth (askeds.Release size phys) = IsMemory size phys × KnowsTouch version
-
+-- what the version knows of these fields: what is asked by a call
 pub record IsAskedIn (version : Version) (depth : Depth) (fields : RequestFields) (asked : Asked) : Type 0 where
-  pub in_range : IsAsked version depth asked
+  pub in_range : IsAskable depth asked × KnowsAsked version asked
   pub fields_are : fields ≡ asked_fields asked
 
 -- a touch with these fields

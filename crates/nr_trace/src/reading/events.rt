@@ -7,16 +7,16 @@ ghost use Rattle.vs_types.specs.Finds.{Finds};
 ghost use Rattle.vs_types.specs.declared.depth.Depth.{Depth as DepthKind};
 ghost use Rattle.nr_trace.specs.Recording.{IsEvent, IsMemory};
 ghost use Rattle.nr_trace.specs.Spelling.{event, release_fields};
-ghost use Rattle.nr_trace.specs.inside.Reading.{asked_by, IsAnswerIn, IsAskedIn, IsReleaseWith, IsRequestIn, IsTouchWith, SpellsEvent};
+ghost use Rattle.nr_trace.specs.inside.Reading.{IsAnswerIn, IsAskedIn, IsReleaseWith, IsRequestIn, IsTouchWith, SpellsEvent};
 
-use crate::event::Event;
+use crate::event::{Asked, Event};
 use crate::fields::AnswerFields;
 use crate::layout::TraceLayout;
 use crate::ranges::is_memory;
 use crate::reading::numbers::{take_u8, take_u16, take_u32, take_u64};
 use crate::recorded::Recorded;
 use crate::version::Version;
-use vs_types::{Access, Answer, Depth, Mode, Query, Request, RequestFields, Size};
+use vs_types::{Answer, Depth, Query, Request, RequestFields, Size};
 
 /// The request that has the fields, if the version knows it.
 fn request_of(version: Version, depth: Depth, fields: RequestFields) -> Option<Request>
@@ -35,42 +35,6 @@ const TOUCH: u8 = 5;
 
 /// The kind of a release.
 const RELEASE: u8 = 6;
-
-/// What a call asks.
-#[derive(Clone, Copy)]
-enum Asked {
-    Request(Request),
-    Touch(u64, Mode, Access),
-    Release(Size, u64),
-}
-
-impl Asked {
-    /// The event that a thread asks it at a replica.
-    fn by(self, replica: u8, thread: u16) -> Event
-        ensures { result ≡ asked_by replica thread self }
-    {
-        match self {
-            Asked::Request(request) => Event::Call {
-                replica,
-                thread,
-                request,
-            },
-            Asked::Touch(address, mode, access) => Event::Touch {
-                replica,
-                thread,
-                address,
-                mode,
-                access,
-            },
-            Asked::Release(size, phys) => Event::Release {
-                replica,
-                thread,
-                size,
-                phys,
-            },
-        }
-    }
-}
 
 /// The touch that has the fields: those of an access, but for the kind.
 fn touch_of(depth: Depth, fields: RequestFields) -> Option<Asked>
@@ -187,7 +151,11 @@ fn call_of(version: Version, layout: TraceLayout, bytes: &[u8]) -> Option<Record
         physical,
     };
     let asked = asked_of(version, layout.depth(), fields)?;
-    Some(Recorded::of(asked.by(replica, thread)))
+    Some(Recorded::of(Event::Call {
+        replica,
+        thread,
+        asked,
+    }))
 }
 
 fn reply_of(version: Version, layout: TraceLayout, bytes: &[u8]) -> Option<Recorded>

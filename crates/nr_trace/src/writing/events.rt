@@ -1,11 +1,11 @@
 //! An event as 24 bytes.
 
 ghost use Rattle.std.specs.Prelude.{◌≡◌, ◌++◌, OnOk};
-ghost use Rattle.nr_trace.specs.Spelling.{asked, event, release_fields, touch_fields};
+ghost use Rattle.nr_trace.specs.Spelling.{asked, asked_fields, event, release_fields, touch_fields};
 
-use crate::event::Event;
+use crate::event::{Asked, Event};
 use crate::fields::AnswerFields;
-use vs_types::{Access, Answer, Memory, Mode, Request, RequestFields, Size};
+use vs_types::{Access, Answer, Memory, Mode, RequestFields, Size};
 
 /// The fields of a touch.
 fn touch_fields(address: u64, mode: Mode, access: Access) -> RequestFields
@@ -30,6 +30,17 @@ fn release_fields(size: Size, phys: u64) -> RequestFields
         rights: 0,
         address: 0,
         physical: phys,
+    }
+}
+
+/// The fields of what a call asks.
+fn asked_fields(what: Asked) -> RequestFields
+    ensures { result ≡ asked_fields what }
+{
+    match what {
+        Asked::Request(request) => request.fields(),
+        Asked::Touch(address, mode, access) => touch_fields(address, mode, access),
+        Asked::Release(size, phys) => release_fields(size, phys),
     }
 }
 
@@ -67,21 +78,8 @@ fn event_bytes(recorded: Event) -> [u8; 24]
         Event::Call {
             replica,
             thread,
-            request,
-        } => asked_bytes(replica, thread, request.fields()),
-        Event::Touch {
-            replica,
-            thread,
-            address,
-            mode,
-            access,
-        } => asked_bytes(replica, thread, touch_fields(address, mode, access)),
-        Event::Release {
-            replica,
-            thread,
-            size,
-            phys,
-        } => asked_bytes(replica, thread, release_fields(size, phys)),
+            asked,
+        } => asked_bytes(replica, thread, asked_fields(asked)),
         Event::Reply { call, at, answer } => reply_bytes(call, at, answer),
     }
 }

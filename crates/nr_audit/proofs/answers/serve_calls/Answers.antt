@@ -9,7 +9,7 @@ use Rattle.nr_trace.specs.Orders.{recorded_order, space_from}
 use Rattle.nr_trace.specs.Faults.{IsWrongFrom}
 use Rattle.nr_trace.specs.declared.fault.Fault.TheVariants.{WrongAnswer}
 use Rattle.nr_audit.specs.inside.LastEvents.{IsLastEvent}
-use Rattle.nr_audit.specs.Served.{asked_by}
+use Rattle.nr_trace.specs.Calls.{request_of}
 use Rattle.nr_audit.specs.inside.Passes.{IsAnswerFault}
 use Rattle.nr_audit.specs.inside.Search.{IsFirstAmongFrom}
 use Rattle.nr_audit.specs.Verdict.{space_of}
@@ -31,7 +31,7 @@ loop-member-preserved-in_default c =
     let within : k < length order = omega arith in
     let own = subst (λ e. IsLastEvent trace (get_or order k 0) e) (sym (is.left k (omega arith))) (c.requires.listed.each k within) in
     let call = c.call_at-call.ensures ∙ own.names in
-    let asks = c.request_of.ensures.asks ∙ ap (asked_by trace) call in
+    let asks = c.request_of.ensures.asks ∙ ap (request_of trace) call in
     let none = sym asks ∙ c.in_default.is in
     record {
       put = put_more order c.loop-member.members k c.call_at-call.result (omega arith) is.put call;
@@ -55,7 +55,7 @@ returns-then-not-agrees-clause-first c =
     let request = c.in-Some.request in
     let serves = subst (λ (s : BoundedSpace). Serves s request c.in_ok-answer.answer c.serve.new.space) is.space c.in_ok-answer.ensures.ok in
     let gives = answered trace.layout (space_from start trace (take k order)) request c.in_ok-answer.answer c.serve.new.space serves in
-    let asks = sym c.in-Some.is ∙ c.request_of.ensures.asks ∙ ap (asked_by trace) call in
+    let asks = sym c.in-Some.is ∙ c.request_of.ensures.asks ∙ ap (request_of trace) call in
     let told = c.answer_at.ensures ∙ ap (option_map (λ (r : Response). r.answer)) own.only_reply in
     subst (λ n. IsFirstAmongFrom start IsAnswerFault trace (WrongAnswer n)) (sym call)
     (first_wrong start trace order refl c.requires.clean k within is.right
@@ -73,7 +73,7 @@ loop-member-preserved c =
     let within : k < length order = omega arith in
     let own = subst (λ e. IsLastEvent trace (get_or order k 0) e) (sym (is.left k (omega arith))) (c.requires.listed.each k within) in
     let call = c.call_at-call.ensures ∙ own.names in
-    let asks = sym c.in-Some.is ∙ c.request_of.ensures.asks ∙ ap (asked_by trace) call in
+    let asks = sym c.in-Some.is ∙ c.request_of.ensures.asks ∙ ap (request_of trace) call in
     let told = c.answer_at.ensures ∙ ap (option_map (λ (r : Response). r.answer)) own.only_reply in
     let serves = subst (λ (s : BoundedSpace). Serves s request c.in_ok-answer.answer c.serve.new.space) is.space c.in_ok-answer.ensures.ok in
     let gives = answered trace.layout (space_from start trace (take k order)) request c.in_ok-answer.answer c.serve.new.space serves in

@@ -3,10 +3,11 @@ use Rattle.vs_types.specs.declared.answer.Answer.{Answer}
 use Rattle.nr_trace.specs.Examples.{map_it, resolve_it}
 use Rattle.nr_trace.specs.declared.event.Event.{Event}
 use Rattle.nr_trace.specs.declared.event.Event.TheVariants.{Call, Reply}
+use Rattle.nr_trace.specs.declared.event.Asked.TheVariants.{Request}
 use Rattle.nr_core.proofs.examples.map_and_resolve_in_steps.Goals as goal
 
 two_calls : Answer → Answer → List Event
-two_calls first second = Call 0 0 map_it ∷ Reply 0 0 first ∷ Call 0 0 resolve_it ∷ Reply 2 1 second ∷ []
+two_calls first second = Call 0 0 (Request map_it) ∷ Reply 0 0 first ∷ Call 0 0 (Request resolve_it) ∷ Reply 2 1 second ∷ []
 
 pub returns-clause-events : goal.returns-clause-events
 unfolding two_calls

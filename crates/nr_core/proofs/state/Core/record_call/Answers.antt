@@ -5,6 +5,7 @@ use Rattle.std.proofs.lemmas.List.Elements.{All-push}
 use Rattle.vs_types.specs.Query.{IsQuery}
 use Rattle.nr_trace.specs.Recording.{IsEvent}
 use Rattle.nr_trace.specs.declared.event.Event.TheVariants.{Call}
+use Rattle.nr_trace.specs.declared.event.Asked.TheVariants as askeds
 use Rattle.nr_trace.specs.declared.version.Version.TheVariants.{V2}
 use Rattle.nr_core.specs.State.{home, Thread}
 use Rattle.nr_core.specs.declared.stage.Stage.TheVariants.{Called}
@@ -26,7 +27,7 @@ invariant_of-self-2 c =
     let config = c.self.inside.config in
     let x = c.index_mut-state.result.now in
     let events = c.self.inside.events.items in
-    let event = Call (c.args.thread % config.replicas) c.args.thread c.args.request in
+    let event = Call (c.args.thread % config.replicas) c.args.thread (askeds.Request c.args.request) in
     let at : x ≡ slice_index_or c.self.inside.threads.items c.args.thread x = search rules in
     let one = thread_seen c.self.inside c.args.thread x c.requires.thread c.self.view_is c.self.invariant c.requires.there at in
     let script = sym (ap (λ z. z.script) one.is) ∙ c.requires.next in
@@ -55,6 +56,6 @@ returns c =
     let number : c.len-call.result ≡ length c.args.self.now.events = rw (← c.self.view_is) (search rules) in
     let after : Thread = record c.requires.thread { script = c.requires.left; stage = Called (length c.args.self.now.events) c.args.request } in
     let seen : thread_in (record x { made = x.made + 1; stage = Called c.len-call.result c.args.request }) ≡ after = rw (next.1, held, number) refl in
-    let event = Call (home c.args.self.now c.args.thread) c.args.thread c.args.request in
+    let event = Call (home c.args.self.now c.args.thread) c.args.thread (askeds.Request c.args.request) in
     let pushed : c.push.new.self.items ≡ c.self.inside.events.items ++ event ∷ [] = rw (← c.self.view_is) (search rules) in
     rw (c.requires.there, c.requires.next, c.requires.idle) (ap Some (set_recorded c.self.inside _ after event c.self.view_is c.from-2.ensures seen pushed))

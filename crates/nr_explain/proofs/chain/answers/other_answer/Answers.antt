@@ -1,9 +1,11 @@
 use Rattle.std.proofs.Common.{◌≡◌, ℕ, take, ap, subst, sym, ◌∙◌}
 use Rattle.vs_types.specs.Space.{Space}
 use Rattle.vs_plain.specs.Plain.{BoundedSpace}
+use Rattle.nr_trace.specs.Calls.{request_of}
 use Rattle.nr_trace.specs.Faults.{IsFirstFrom}
 use Rattle.nr_trace.specs.Orders.{answer_in, space_from}
 use Rattle.nr_trace.specs.declared.fault.Fault.TheVariants.{WrongAnswer}
+use Rattle.nr_trace.proofs.LawsOfCalls.{is_some_from}
 use Rattle.nr_explain.proofs.Replies.{some_reply}
 use Rattle.nr_explain.specs.Facts.{IsLastChangeFrom}
 use Rattle.nr_explain.specs.Nearest.{IsMemoryOf, IsNearest}
@@ -15,6 +17,9 @@ unreachable-requires c =
     let segment = c.args.segment.now in
     let wrong = c.requires.first.holds in
     some_reply segment c.args.index wrong.reply wrong.is_reply (λ index low answers. c.in_default.ensures index answers)
+
+pub request_at-request-requires : goal.request_at-request-requires
+request_at-request-requires c = is_some_from _ c.requires.first.holds.request c.requires.first.holds.asks
 
 pub answer_after-requires-clause-within : goal.answer_after-requires-clause-within
 answer_after-requires-clause-within c =
@@ -39,13 +44,14 @@ returns-clause-is c =
     let begun : c.in_ok-begun.begun.space ≡ start = ap (λ (s : BoundedSpace). s.space) c.in_ok-begun.ensures in
     let then_is = ap (λ (s : BoundedSpace). s.space) c.in_ok-then.ensures
     ∙ ap (λ (s : Space). space_from s segment (take c.in-Some.reply.at segment.log)) begun in
-    wrong_facts start segment c.call_at-call.result c.in-Some.reply c.in_ok-wanted.wanted c.address_about-address.result c.in_ok-last.last.1
-    c.in_ok-right.right c.in_ok-memory.memory
-    (subst (λ (n : ℕ). IsFirstFrom start segment (WrongAnswer n)) (sym event) c.requires.first) c.call_at-call.ensures.is is.0 (is.1 ∙ sym event)
+    wrong_facts start segment c.call_at-call.result c.request_at-request.result c.in-Some.reply c.in_ok-wanted.wanted c.address_about-address.result
+    c.in_ok-last.last.1 c.in_ok-right.right c.in_ok-memory.memory
+    (subst (λ (n : ℕ). IsFirstFrom start segment (WrongAnswer n)) (sym event) c.requires.first) c.call_at-call.ensures.is
+    (ap (request_of segment) event ∙ c.request_at-request.ensures.asks) is.0 (is.1 ∙ sym event)
     (subst (λ (s : BoundedSpace). c.in_ok-wanted.wanted
-    ≡ answer_in segment.layout (space_from s.space segment (take c.in-Some.reply.at segment.log)) c.call_at-call.result.request)
+    ≡ answer_in segment.layout (space_from s.space segment (take c.in-Some.reply.at segment.log)) c.request_at-request.result)
     c.in_ok-space.ensures c.in_ok-wanted.ensures) c.address_about-address.ensures
     (subst (λ (s : Space). IsLastChangeFrom s segment c.address_about-address.result c.in-Some.reply.at c.in_ok-last.last.1) again c.in_ok-last.ensures.changed)
-    (subst (λ (s : Space). IsNearest s segment c.call_at-call.result.request c.in-Some.reply.answer c.in-Some.reply.at c.in-Some.reply.at c.in_ok-right.right)
+    (subst (λ (s : Space). IsNearest s segment c.request_at-request.result c.in-Some.reply.answer c.in-Some.reply.at c.in-Some.reply.at c.in_ok-right.right)
     before c.in_ok-right.ensures)
     (subst (λ (s : Space). IsMemoryOf s c.in-Some.reply.answer c.in_ok-memory.memory) then_is c.in_ok-memory.ensures)

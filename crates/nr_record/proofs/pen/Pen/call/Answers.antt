@@ -3,6 +3,7 @@ use Rattle.std.specs.Prelude.{None, Some, Option, vec_capacity}
 use Rattle.vs_types.specs.Query.{IsQuery}
 use Rattle.nr_trace.specs.declared.event.Event.{Event}
 use Rattle.nr_trace.specs.declared.event.Event.TheVariants.{Call}
+use Rattle.nr_trace.specs.declared.event.Asked.TheVariants as askeds
 use Rattle.nr_record.specs.Pen.{PenState, calls_in, stamped}
 use Rattle.nr_record.specs.declared.stamped.Stamped.{Stamped}
 use Rattle.nr_record.specs.inside.Held.{IsHeld}
@@ -21,7 +22,7 @@ invariant_of-self c =
     let held = subst (λ (w : Option ℕ). IsHeld view inside.replica inside.thread w room made) none c.self.invariant.1 in
     let quota = subst (λ (p : PenState). calls_in p.made < p.quota) (sym is) c.requires.quota in
     let fits = subst (λ (p : PenState). IsQuery p.clock.layout.depth c.args.request) (sym is) c.requires.fits in
-    let items : c.note.new.made.items ≡ made ++ stamped stamp (Call inside.replica inside.thread c.args.request) ∷ [] =
+    let items : c.note.new.made.items ≡ made ++ stamped stamp (Call inside.replica inside.thread (askeds.Request c.args.request)) ∷ [] =
     c.note.ensures.0 ∙ ap (λ (e : Event). made ++ stamped stamp e ∷ []) c.of-event.ensures in
     let after = held_call view c.draw-stamp.new.seat.me.0 inside.replica inside.thread stamp room (vec_capacity c.note.new.made) made c.args.request
     held c.draw-stamp.ensures.drawn quota fits c.note.ensures.1 in

@@ -2,7 +2,7 @@ use Rattle.std.proofs.Common.{◌≡◌, ◌∷◌, ◌++◌, subst, sym, ◌∙
 use Rattle.vs_types.specs.Finds.{Finds}
 use Rattle.vs_types.specs.declared.fields.RequestFields.{RequestFields}
 use Rattle.nr_trace.specs.inside.Reading.{IsAskedIn, SpellsEvent}
-use Rattle.nr_trace.specs.declared.reading.events.Asked.{Asked}
+use Rattle.nr_trace.specs.declared.event.Asked.{Asked}
 use Rattle.nr_trace.proofs.EventsApart.{call_bytes, CallFits}
 use Rattle.nr_trace.proofs.Events.{no_call}
 use Rattle.nr_trace.proofs.Touches.{call_spelled}
@@ -44,6 +44,6 @@ returns c =
     } in
     let parts : c.args.bytes.now ≡ call_bytes c.take_u8-replica.result.0 c.take_u16-thread.result.0 fields c.take_u8-unused.result.0
     ++ c.take_u64-physical.result.1.now = cc in
-    subst (SpellsEvent c.args.version c.args.layout (0 ∷ c.args.bytes.now)) (sym (c.of.ensures ∙ c.by.ensures))
+    subst (SpellsEvent c.args.version c.args.layout (0 ∷ c.args.bytes.now)) (sym c.of.ensures)
     (call_spelled c.args.version c.args.layout c.args.bytes.now _ _ _ fields _ c.in_ok-asked.asked parts c.requires (omega arith) (omega arith) (omega arith)
     (subst (λ depth. IsAskedIn c.args.version depth fields c.in_ok-asked.asked) c.depth.ensures c.in_ok-asked.ensures))

@@ -1,5 +1,6 @@
 //! The calls of a trace that an order may have.
 
+use nr_audit::request_of;
 use nr_touch::replies;
 use nr_trace::{Event, Recorded, Trace};
 use std::alloc::Global;
@@ -15,7 +16,7 @@ pub(crate) fn short(index: usize) -> u32 {
 
 /// A call that an order has, or an unanswered update that it may have.
 #[derive(Clone, Copy, Debug)]
-pub(crate) struct Asked {
+pub(crate) struct Orderable {
     /// Its number: the event at which it was made.
     pub(crate) made: u32,
     /// The event at which it was answered, or `NEVER`.
@@ -27,7 +28,7 @@ pub(crate) struct Asked {
     pub(crate) answer: Option<Answer>,
 }
 
-impl Asked {
+impl Orderable {
     pub(crate) fn is_update(&self) -> bool {
         matches!(self.request.query(), Query::Update(_))
     }
@@ -66,17 +67,15 @@ fn places_of(alloc: Global, trace: &Trace) -> Result<Vec<u32>, Memory> {
 }
 
 /// The calls of a trace that an order may have, by number: an unanswered read says nothing. Allocates memory for them.
-pub(crate) fn list_calls(alloc: Global, trace: &Trace) -> Result<Vec<Asked>, Memory> {
+pub(crate) fn list_calls(alloc: Global, trace: &Trace) -> Result<Vec<Orderable>, Memory> {
     let answers = replies(alloc, trace)?;
     let places = places_of(alloc, trace)?;
     let mut calls = Vec::new(alloc);
     for (index, event) in trace.events().iter().enumerate() {
-        let Event::Call {
-            replica,
-            request,
-            ..
-        } = event.event()
-        else {
+        let Event::Call { replica, .. } = event.event() else {
+            continue;
+        };
+        let Some(request) = request_of(trace, short(index)) else {
             continue;
         };
         let answered = answers.get(index).copied().unwrap_or(NEVER);
@@ -87,7 +86,7 @@ pub(crate) fn list_calls(alloc: Global, trace: &Trace) -> Result<Vec<Asked>, Mem
         if answer.is_none() && !matches!(request.query(), Query::Update(_)) {
             continue;
         }
-        calls.push(Asked {
+        calls.push(Orderable {
             made: short(index),
             answered,
             replica,
