@@ -83,12 +83,12 @@ pub of_pages : (e : Error) (name : Text) (rows : List Row) → name ≡ codes "p
 of_pages e name rows is (inl memory) = inl (inl memory)
 of_pages e name rows is (inr misuse) = inr (inr (inl (is, misuse)))
 
--- an error of a subcommand, where a parse gave that
-pub told_of : (kinds : Kinds) (e : Error) (given sub : Option (Text × List Row)) → given ≡ sub
-    → HasKind [] e ⊎ IsMisused given (kind_of e) → HasKind kinds e ⊎ IsMisused sub (kind_of e)
-told_of kinds e given sub same (inl (inl memory)) = inl (inl memory)
-told_of kinds e given sub same (inl (inr none)) = absurd none
-told_of kinds e given sub same (inr h) = inr (subst (λ s. IsMisused s (kind_of e)) same h)
+-- an error of a subcommand, where a parse gave that, and had nothing against the words
+pub told_of : (Misuse : Option (Text × List Row) → ErrorKind → Type 0) (kinds : Kinds) (e : Error) (given sub : Option (Text × List Row))
+    → given ≡ sub → kinds ≡ [] → HasKind [] e ⊎ Misuse given (kind_of e) → HasKind kinds e ⊎ ((kinds ≡ []) × Misuse sub (kind_of e))
+told_of Misuse kinds e given sub same none (inl (inl memory)) = inl (inl memory)
+told_of Misuse kinds e given sub same none (inl (inr nothing)) = absurd nothing
+told_of Misuse kinds e given sub same none (inr h) = inr (none, subst (λ s. Misuse s (kind_of e)) same h)
 
 -- the text of a value, or none
 pub text_or_none : (o : Option (Bor (List ℕ))) (d : Bor (List ℕ)) (t : Option Text) → option_map (λ s. s.now) o ≡ t → d.now ≡ []

@@ -5,12 +5,14 @@ use Rattle.std.specs.List.{All}
 use Rattle.std.specs.Borrow.{Bor}
 use Rattle.std.specs.Str.{bytes_eq}
 use Rattle.std.specs.Str.Parse.{ParsesUnsigned}
-use Rattle.clap.specs.Words.{App, Kinds, Row, Rule, Text, all_of, first_of, new_app, new_rule, with_rule, with_subcommand}
+use Rattle.clap.specs.Words.{App, HasKind, Kinds, Row, Rule, Text, all_of, fault_of, first_of, kind_of, new_app, new_rule, subcommand_of, with_rule}
+use Rattle.clap.specs.Words.{with_subcommand}
 use Rattle.clap.specs.Walk.{one_of}
 use Rattle.clap.specs.declared.builder.command.Command.{Command as ClapCommand}
 use Rattle.clap.specs.declared.builder.command.Command.TheViews.{out-Command}
 use Rattle.clap.specs.declared.builder.value_parser.ValueParser.TheVariants as parsers
 use Rattle.clap.specs.declared.builder.action.ArgAction.TheVariants.{Append, SetTrue}
+use Rattle.clap.specs.declared.error.Error.{Error}
 use Rattle.clap.specs.declared.error.kind.ErrorKind.{ErrorKind}
 use Rattle.clap.specs.declared.error.kind.ErrorKind.TheVariants as kind
 use Rattle.audit_commands.specs.declared.inspection.Inspection.{Inspection}
@@ -284,6 +286,11 @@ abbrev pub IsMisused : Option (Text × List Row) → ErrorKind → Type 0
 IsMisused None fault = fault ≡ kind.MissingSubcommand
 IsMisused (Some given) fault = ((given.0 ≡ codes "audit") × IsAuditMisuse given.1 fault) ⊎ ((given.0 ≡ codes "pages") × IsPagesMisuse given.1 fault)
     ⊎ (IsOtherName given.0 × (fault ≡ kind.MissingSubcommand))
+
+-- clap has this against the words of a program; or it has nothing against them, and they are misused in this way
+abbrev pub IsRefusal : (Option (Text × List Row) → ErrorKind → Type 0) → App → List Text → Error → Type 0
+IsRefusal Misused app words error =
+    HasKind (fault_of app words) error ⊎ ((fault_of app words ≡ []) × Misused (subcommand_of app words) (kind_of error))
 
 -- a subcommand and what was given with it ask for an inspection
 abbrev pub AsksInspection : Text × List Row → Inspection → Type 0

@@ -1,7 +1,7 @@
 -- What a parse by clap says of the command that is asked for.
 use Rattle.std.proofs.Common.{◌≡◌, ◌≢◌, ◌⊎◌, ℕ, Bool, List, [], Option, None, Some, inl, inr, sym, refl, subst, codes}
 use Rattle.std.specs.Prelude.{IfSome, IsSomeAnd}
-use Rattle.clap.specs.Words.{HasKind, Kinds, Row, Text, kind_of}
+use Rattle.clap.specs.Words.{HasKind, Row, Text, kind_of}
 use Rattle.clap.specs.Walk.{one_of}
 use Rattle.clap.specs.declared.error.Error.{Error}
 use Rattle.audit_commands.specs.Words.{AsksInspection, IsFlag, IsMisused}
@@ -24,13 +24,6 @@ pub none_here : (e : Error) (sub : Option (Text × List Row)) → sub ≡ None �
 none_here e sub is (inl h) = inl h
 none_here e sub is (inr h) =
     inr (h, subst (λ (s : Option (Text × List Row)). IfSome s (λ it. (it.0 ≢ codes "simulate") × (it.0 ≢ codes "run"))) (sym is) tt)
-
--- an error of a subcommand, where a parse gave that
-pub told_here : (kinds : Kinds) (e : Error) (given sub : Option (Text × List Row)) → given ≡ sub
-    → HasKind [] e ⊎ IsMisusedHere given (kind_of e) → HasKind kinds e ⊎ IsMisusedHere sub (kind_of e)
-told_here kinds e given sub same (inl (inl memory)) = inl (inl memory)
-told_here kinds e given sub same (inl (inr none)) = absurd none
-told_here kinds e given sub same (inr h) = inr (subst (λ s. IsMisusedHere s (kind_of e)) same h)
 
 -- the same text has the same number
 pub number_of : (least most default : ℕ) (t u : Option Text) (number : ℕ) → t ≡ u → IsNumber least most default t number → IsNumber least most default u number

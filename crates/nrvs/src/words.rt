@@ -4,7 +4,7 @@ ghost use Rattle.std.specs.Prelude.{◌≡◌, ◌≤◌, ◌⊎◌, [], false, 
 ghost use Rattle.vs_types.specs.declared.limits.TheConstants.{MOST_LEVELS};
 ghost use Rattle.vs_types.specs.Depth.{levels};
 ghost use Rattle.clap.specs.Words.{fault_of, found_of, kind_of, one_text, rows_of, subcommand_of, subcommand_rows_of, HasKind};
-ghost use Rattle.audit_commands.specs.Words.{kinds_of_no_words};
+ghost use Rattle.audit_commands.specs.Words.{kinds_of_no_words, IsRefusal};
 ghost use Rattle.nrvs.specs.CommandLine.{command_line, Asks, AsksRun, IsMisusedHere, IsNumber, IsSegmentSize, IsSetup, IsTurns};
 
 use crate::command::Command;
@@ -142,11 +142,8 @@ fn read_words<'a>(alloc: Global, words: &'a [String]) -> Result<Command<'a>, Err
         (Asks (subcommand_of command_line (map (λ word. string_bytes word) words.entry.now))) }
     ensures faultless { IfOk result
         (λ _. fault_of command_line (map (λ word. string_bytes word) words.entry.now) ≡ []) }
-    ensures fault { IfErr result (λ error. HasKind
-        (fault_of command_line (map (λ word. string_bytes word) words.entry.now)) error
-        ⊎ IsMisusedHere
-        (subcommand_of command_line (map (λ word. string_bytes word) words.entry.now))
-        (kind_of error)) }
+    ensures fault { IfErr result
+        (IsRefusal IsMisusedHere command_line (map (λ word. string_bytes word) words.entry.now)) }
 {
     let mut line = command_line(alloc)?;
     let matches = line.try_get_matches_from_mut(words)?;
@@ -171,11 +168,8 @@ pub fn read_program_words<'a>(
         IfOk result
         (λ _. fault_of command_line (map (λ word. string_bytes word) given.items) ≡ [])) }
     ensures fault { IfOk words.entry.now
-        (λ given. IfErr result (λ error. HasKind
-        (fault_of command_line (map (λ word. string_bytes word) given.items)) error
-        ⊎ IsMisusedHere
-        (subcommand_of command_line (map (λ word. string_bytes word) given.items))
-        (kind_of error))) }
+        (λ given. IfErr result
+        (IsRefusal IsMisusedHere command_line (map (λ word. string_bytes word) given.items))) }
     ensures no_words { IfErr words.entry.now
         (λ why. MatchResult result (λ _. ⊥) (HasKind (kinds_of_no_words why))) }
 {

@@ -1,8 +1,8 @@
 //! What the program's words ask for.
 
-ghost use Rattle.std.specs.Prelude.{◌≡◌, ◌⊎◌, [], IfOk, IfErr, IsSomeAnd, MatchResult, map, string_bytes};
-ghost use Rattle.clap.specs.Words.{fault_of, kind_of, subcommand_of, HasKind};
-ghost use Rattle.audit_commands.specs.Words.{kinds_of_no_words, AsksInspection, IsMisused};
+ghost use Rattle.std.specs.Prelude.{◌≡◌, [], IfOk, IfErr, IsSomeAnd, MatchResult, map, string_bytes};
+ghost use Rattle.clap.specs.Words.{fault_of, subcommand_of, HasKind};
+ghost use Rattle.audit_commands.specs.Words.{kinds_of_no_words, AsksInspection, IsMisused, IsRefusal};
 ghost use Rattle.nrvs_audit.specs.CommandLine.{nrvs_audit_line};
 
 use crate::command_line::command_line;
@@ -18,11 +18,8 @@ fn read_words<'a>(alloc: Global, words: &'a [String]) -> Result<Inspection<'a>, 
         (λ given. AsksInspection given inspection)) }
     ensures faultless { IfOk result
         (λ _. fault_of nrvs_audit_line (map (λ word. string_bytes word) words.entry.now) ≡ []) }
-    ensures fault { IfErr result (λ error. HasKind
-        (fault_of nrvs_audit_line (map (λ word. string_bytes word) words.entry.now)) error
-        ⊎ IsMisused
-        (subcommand_of nrvs_audit_line (map (λ word. string_bytes word) words.entry.now))
-        (kind_of error)) }
+    ensures fault { IfErr result
+        (IsRefusal IsMisused nrvs_audit_line (map (λ word. string_bytes word) words.entry.now)) }
 {
     let mut line = command_line(alloc)?;
     let matches = line.try_get_matches_from_mut(words)?;
@@ -47,11 +44,8 @@ pub fn read_program_words<'a>(
         IfOk result
         (λ _. fault_of nrvs_audit_line (map (λ word. string_bytes word) given.items) ≡ [])) }
     ensures fault { IfOk words.entry.now
-        (λ given. IfErr result (λ error. HasKind
-        (fault_of nrvs_audit_line (map (λ word. string_bytes word) given.items)) error
-        ⊎ IsMisused
-        (subcommand_of nrvs_audit_line (map (λ word. string_bytes word) given.items))
-        (kind_of error))) }
+        (λ given. IfErr result
+        (IsRefusal IsMisused nrvs_audit_line (map (λ word. string_bytes word) given.items))) }
     ensures no_words { IfErr words.entry.now
         (λ why. MatchResult result (λ _. ⊥) (HasKind (kinds_of_no_words why))) }
 {

@@ -1,9 +1,9 @@
-use Rattle.std.proofs.Common.{[], inr, subst, sym}
+use Rattle.std.proofs.Common.{[], ◌⊎◌, inr, subst, sym}
 use Rattle.std.proofs.lemmas.Result.{IfOk-weaker, IfErr-weaker}
-use Rattle.clap.specs.Words.{rows_of, found_of, kind_of}
+use Rattle.clap.specs.Words.{HasKind, rows_of, found_of, kind_of}
 use Rattle.std.specs.Prelude.{IsSomeAnd}
 use Rattle.audit_commands.specs.Words.{AsksInspection, IsMisused}
-use Rattle.audit_commands.proofs.CommandLines.{entered, not_entered, told_of}
+use Rattle.audit_commands.proofs.CommandLines.{entered, not_entered}
 use Rattle.audit_commands.proofs.inspection.read_inspection.Goals as goal
 
 pub returns-in-Some-clause-asks : goal.returns-in-Some-clause-asks
@@ -17,7 +17,8 @@ pub returns-in-Some-clause-fault : goal.returns-in-Some-clause-fault
 returns-in-Some-clause-fault c =
     let arm = c.in-Some in
     let sub_is = entered _ arm.name.now (rows_of (found_of arm.given.now)) arm.ensures.name arm.ensures.rows in
-    IfErr-weaker c.read_named.result _ _ (λ e h. told_of [] e _ _ (sym sub_is) h) c.read_named.ensures.fault
+    IfErr-weaker c.read_named.result _ _
+    (λ e h. subst (λ s. HasKind [] e ⊎ IsMisused s (kind_of e)) (sym sub_is) h) c.read_named.ensures.fault
 
 pub returns-in_ok-none-in-None-clause-fault : goal.returns-in_ok-none-in-None-clause-fault
 returns-in_ok-none-in-None-clause-fault c =

@@ -1,4 +1,4 @@
-use Rattle.std.proofs.Common.{◌≡◌, ◌∙◌, ap, codes, inl, inr, map, option_map, subst, sym, Bool, Bor, List, Option, Some, ℕ}
+use Rattle.std.proofs.Common.{◌∙◌, ap, codes, inr, map, option_map, subst, sym, Bool, Bor, List, Some, ℕ}
 use Rattle.std.specs.Prelude.{MatchBool}
 use Rattle.std.specs.List.{All}
 use Rattle.std.proofs.lemmas.Bool.{true≢false}

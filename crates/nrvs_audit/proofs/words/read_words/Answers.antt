@@ -15,7 +15,7 @@ returns-in_err-matches-clause-fault c =
     let texts = map (λ word. string_bytes word) c.args.words.now in
     let known = subst (λ (a : App). HasKind (fault_of a texts) c.in_err-matches.field-0.0) app_is kinds in
     of_clap c.from_residual-in_err-matches.result (fault_of nrvs_audit_line texts)
-    (λ e. IsMisused (subcommand_of nrvs_audit_line texts) (kind_of e))
+    (λ e. (fault_of nrvs_audit_line texts ≡ []) × IsMisused (subcommand_of nrvs_audit_line texts) (kind_of e))
     (same_error c.from_residual-in_err-matches.result c.in_err-matches.field-0.0
     (fault_of nrvs_audit_line texts) c.from_residual-in_err-matches.ensures.1 known)
 
@@ -40,4 +40,6 @@ returns-clause-fault c =
     let texts = map (λ word. string_bytes word) c.args.words.now in
     let parsed : subcommand_rows_of c.in_ok-matches.matches ≡ subcommand_of nrvs_audit_line texts =
     (c.in_ok-matches.ensures.ok.2 (ap is_simple app_is)).1 ∙ ap (λ (a : App). subcommand_of a texts) app_is in
-    IfErr-weaker c.read_inspection.result _ _ (λ e h. told_of (fault_of nrvs_audit_line texts) e _ _ parsed h) c.read_inspection.ensures.fault
+    let none = subst (λ (a : App). fault_of a texts ≡ []) app_is (c.in_ok-matches.ensures.kinds (ap is_simple_and_free app_is)) in
+    IfErr-weaker c.read_inspection.result _ _ (λ e h. told_of IsMisused (fault_of nrvs_audit_line texts) e _ _ parsed none h)
+    c.read_inspection.ensures.fault
