@@ -101,8 +101,8 @@ VALUE(NRVS_HARVEST, 35);
 VALUE(NRVS_ABSENT, 36);
 VALUE(NRVS_ENDS_BEYOND, 37);
 
-/* The audit: `verdict_status`, and crates/nrvs_audit_c/src/status.rt; faults and formats: `fault_numbers`, `format_numbers` of
- * crates/nrvs_audit_c/specs/Numbers.antt.
+/* The audit: `verdict_status`, and crates/audit_numbers/src/status.rt; faults and formats: `fault_numbers`, `format_numbers` of
+ * crates/audit_numbers/specs/Numbers.antt.
  */
 VALUE(NRVS_RIGHT, 0);
 VALUE(NRVS_WRONG, 1);

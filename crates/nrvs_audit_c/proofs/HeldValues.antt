@@ -23,7 +23,7 @@ use Rattle.std.proofs.alloc.Global.TheLaws as heap_laws
 use Rattle.std.specs.contracts.impls.GlobalAllocator.TheImpl.{ghosts}
 use Rattle.std_alloc.specs.Box.Ownership.{box_owns}
 use Rattle.nrvs_audit_c.specs.Held.{owned_at}
-use Rattle.nrvs_audit_c.specs.contracts.judging.Judging as judging
+use Rattle.audit_numbers.specs.contracts.judging.Judging as judging
 use Rattle.nrvs_audit_c.specs.contracts.held.Held as held
 use Rattle.nrvs_audit_c.proofs.LooseValues.{both}
 

@@ -1,5 +1,2 @@
-pub mod Numbers
-pub mod Told
 pub mod Held
-pub mod Chains
-pub mod Calls
+pub mod Handle

@@ -3,15 +3,15 @@
 ghost use Rattle.std.specs.Prelude.{◌≡◌, ◌≢◌, ◌≤◌, ◌⊎◌, [], ℕ, List, Bool, Option, None, Some, true};
 ghost use Rattle.nr_chain.specs.Fed.{ChainFed};
 ghost use Rattle.nr_explain.specs.declared.chain.explanation.ChainExplanation.{ChainExplanation as ExplanationRow};
-ghost use Rattle.nrvs_audit_c.specs.declared.telling.Telling.{Telling as TellingRow};
-ghost use Rattle.nrvs_audit_c.specs.Calls.{IsSound, TellsEnd, TellsMore, TellsSegment, TellsText};
-ghost use Rattle.nrvs_audit_c.specs.Chains.{IsFed, IsOver};
+ghost use Rattle.audit_numbers.specs.declared.telling.Telling.{Telling as TellingRow};
+ghost use Rattle.audit_numbers.specs.Calls.{TellsEnd, TellsMore, TellsSegment, TellsText};
+ghost use Rattle.audit_numbers.specs.Chains.{IsFed, IsOver};
+ghost use Rattle.nrvs_audit_c.specs.Handle.{IsSound};
 ghost use Rattle.nrvs_audit_c.specs.declared.handle.TheConstants.{MADE};
 
-use crate::finding::Finding;
 use crate::handle::{Handle, MADE};
-use crate::judging::Judging;
-use crate::status::{IN_USE, MORE, NO_CHAIN, NO_MEMORY};
+use audit_numbers::status::{IN_USE, MORE, NO_CHAIN, NO_MEMORY};
+use audit_numbers::{Finding, Judging};
 use std::alloc::Global;
 
 /// Begins a chain, of which nothing has come yet. Its verdict can be explained later only if `explain` is true. Allocates a block, which

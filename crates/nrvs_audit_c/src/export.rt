@@ -2,12 +2,9 @@
 
 ghost use Rattle.std.specs.Prelude.{◌≡◌, ◌≢◌, ℕ, List, length};
 ghost use Rattle.nr_audit.specs.Headline.{AreRightWith};
-ghost use Rattle.nrvs_audit_c.specs.Told.{IsAudited, with_items};
+ghost use Rattle.audit_numbers.specs.Told.{IsAudited, with_items};
 
-use crate::finding::Finding;
-use crate::status::{NO_MEMORY, status_of};
-use crate::written::write_order;
-use nr_audit::audit;
+use audit_numbers::{Finding, judge_trace};
 use std::alloc::Global;
 
 /// Whether bytes are those of a right trace: `audit` of `nr_audit`. Its verdict is given in numbers, and where it is yes and the array
@@ -27,10 +24,5 @@ pub extern "C" fn nrvs_audit(
     ensures refused_finding { result ≡ 3 → finding.new ≡ finding.old }
     ensures refused_order { result ≡ 3 → order.new ≡ order.old }
 {
-    let Ok(verdict) = audit(alloc, bytes) else {
-        return NO_MEMORY;
-    };
-    *finding = Finding::of(&verdict);
-    write_order(&verdict, order);
-    status_of(&verdict)
+    judge_trace(alloc, bytes, order, finding)
 }

@@ -4,8 +4,8 @@ ghost use Rattle.std.specs.Prelude.{◌≡◌, Option, None, Some, is_some, true
 ghost use Rattle.nrvs_audit_c.specs.declared.handle.TheConstants.{MADE};
 
 use crate::held::Held;
-use crate::judging::Judging;
 use crate::loose::Loose;
+use audit_numbers::Judging;
 use std::alloc::Global;
 
 /// The magic word of a handle that was made.

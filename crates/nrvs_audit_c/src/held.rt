@@ -2,11 +2,11 @@
 
 ghost use Rattle.std.specs.Prelude.{◌≡◌, Option, None, Some, is_some, true};
 ghost use Rattle.std.specs.Coded.{coded_option};
-ghost use Rattle.nrvs_audit_c.specs.contracts.judging.Judging as judging_contract;
-ghost use Rattle.nrvs_audit_c.specs.declared.judging.Judging.{Judging};
+ghost use Rattle.audit_numbers.specs.contracts.judging.Judging as judging_contract;
+ghost use Rattle.audit_numbers.specs.declared.judging.Judging.{Judging};
 
-use crate::judging::Judging;
 use crate::loose::Loose;
+use audit_numbers::Judging;
 use std::alloc::Global;
 use std::marker::Model;
 use std::mem::replace;

@@ -6,14 +6,8 @@
 
 mod chain;
 mod export;
-mod finding;
 mod handle;
 mod held;
-mod judging;
 mod loose;
-mod status;
-mod telling;
-mod written;
 
-pub use finding::Finding;
 pub use handle::Handle;

@@ -1,6 +1,6 @@
 use Rattle.std.proofs.Common.{sym, subst, true, ap, ◌∙◌, Some}
-use Rattle.nrvs_audit_c.specs.Chains.{IsOver}
-use Rattle.nrvs_audit_c.specs.declared.judging.Judging.{Judging}
+use Rattle.audit_numbers.specs.Chains.{IsOver}
+use Rattle.audit_numbers.specs.declared.judging.Judging.{Judging}
 use Rattle.nrvs_audit_c.proofs.chain.nrvs_audit_chain_explain.Goals as goal
 
 pub returns-clause-told : goal.returns-clause-told

@@ -1,7 +1,7 @@
 use Rattle.std.proofs.Common.{Option, sym, subst, ap, ◌∙◌, Some}
-use Rattle.nrvs_audit_c.specs.Calls.{TellsMore, TellsSegment}
-use Rattle.nrvs_audit_c.specs.Chains.{IsFed}
-use Rattle.nrvs_audit_c.specs.declared.judging.Judging.{Judging}
+use Rattle.audit_numbers.specs.Calls.{TellsMore, TellsSegment}
+use Rattle.audit_numbers.specs.Chains.{IsFed}
+use Rattle.audit_numbers.specs.declared.judging.Judging.{Judging}
 use Rattle.nrvs_audit_c.proofs.chain.nrvs_audit_chain_feed.Goals as goal
 
 pub returns-clause-told : goal.returns-clause-told

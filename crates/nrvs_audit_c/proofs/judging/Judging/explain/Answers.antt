@@ -1,7 +1,0 @@
-use Rattle.std.proofs.Common.{subst, true, Some}
-use Rattle.nrvs_audit_c.specs.Chains.{IsOver}
-use Rattle.nrvs_audit_c.specs.declared.judging.Judging.{Judging}
-use Rattle.nrvs_audit_c.proofs.judging.Judging.explain.Goals as goal
-
-pub returns-in-Open-clause-unexplained : goal.returns-in-Open-clause-unexplained
-returns-in-Open-clause-unexplained c = λ is bytes over. subst (λ (j : Judging). IsOver bytes true (Some j)) c.in-Open.is over

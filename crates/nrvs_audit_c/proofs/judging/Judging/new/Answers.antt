@@ -1,5 +1,0 @@
-use Rattle.nrvs_audit_c.proofs.Pieces.{nothing_judged}
-use Rattle.nrvs_audit_c.proofs.judging.Judging.new.Goals as goal
-
-pub returns : goal.returns
-returns c = (nothing_judged c.new.result c.new.ensures, c.begin_telling.ensures)

@@ -1,8 +1,0 @@
-use Rattle.std.proofs.Common.{subst}
-use Rattle.nrvs_audit_c.specs.Chains.{IsTold}
-use Rattle.nrvs_audit_c.proofs.telling.take_told.Goals as goal
-
-pub returns-in_ok-take-in-Some : goal.returns-in_ok-take-in-Some
-returns-in_ok-take-in-Some c = λ bytes explain told.
-    let there = subst (IsTold bytes explain) c.in-Some.is told in
-    (there.0, c.in_ok-take-in-Some.ensures bytes there.1)
