@@ -29,17 +29,19 @@ import log_lines
 from log_lines import (Access, Born, Dumped, End, Entered, Entry, Fault, Flushed, Flushing, InUser, Line, Note, Released, Returned, Store,
                        Symbol, Table, Word)
 from page_tables import BYTES, Change, Page, PageTables
+from private_pages import UNWRITTEN, PrivatePages, is_fork
+import met
 from chain_bytes import Segment
+from met import BETWEEN, ENDED, GIVEN, MET, USED, Users
 from promises import MUNMAP, PROTECTS, Promises, allowed_by, rounded, taken_away
 from trace_bytes import ACCESS, ALLOWED, CHANGED, DONE, FAULT, MAP, PROTECT, REMOVED, UNMAP, Frames, Trace
 from windows import EVERYTHING, Update, Windows
 
 PROCESSORS = 8                  # threads 0 to 7 are the processors' accesses, the others updates under way
-# What a yes says something about: where none of these was met, it says little
-BETWEEN, ENDED, GIVEN = MET = ("accesses between a store and its flush", "updates that another task's flush ended",
-                               "releases while something wasn't flushed")
 MORE = "pages that allow more than a system call said"
 LATER = "pages that were stored later, and allow more than a system call said"
+FORKED = "private pages that a fork leaves writable"
+TWICE = "private pages that may be written, and have the frame of another one"
 MOST_STORED = 4096              # pages of a task that isn't seen in user mode: of a thread of the kernel's own, say
 
 
@@ -79,6 +81,7 @@ class Converter:
     flushing: dict[int, int] = field(default_factory=dict)                  # by task: places when its flush by all processors began
     entered: dict[int, int] = field(default_factory=dict)                   # by task: places when its system call began
     promises: Promises = field(default_factory=Promises)
+    users: Users = field(default_factory=Users)
     stored: dict[int, set[int]] = field(default_factory=lambda: collections.defaultdict(set))      # by task: bases, not looked at yet
     free: list[int] = field(default_factory=list)                           # threads for updates that aren't answered yet
     start: Frames = field(default_factory=dict)
@@ -99,6 +102,7 @@ class Converter:
         if self.options.chain:
             self.trace = Segment()
         self.free = list(range(self.trace.threads - 1, PROCESSORS - 1, -1))
+        self.private = PrivatePages(self.promises)
 
     # ---- updates ----
 
@@ -107,7 +111,7 @@ class Converter:
             return MAP
         return UNMAP if change.after is None else PROTECT
 
-    def update(self, change: Change, task: int, pcs: tuple[int, ...]) -> None:
+    def update(self, change: Change, task: int, pcs: tuple[int, ...], processor: int = -1) -> None:
         """One page's update: it is called and placed here, and replied to here or when it is flushed."""
         kind, after, page = self.kind(change), change.after, change.before or change.after
         assert page is not None
@@ -122,6 +126,7 @@ class Converter:
         self.latest[change.base] = (update.number, task)
         if takes_away:
             self.windows.add(update, task)
+            self.counts[USED] += processor >= 0 and self.users.have_others(change.base, processor)
         if after and (not change.before or after.rights & ~change.before.rights):
             self.given[change.base] = update.number
         if not waits:
@@ -134,6 +139,7 @@ class Converter:
             self.pages.pop(change.base, None)
         else:
             self.pages[change.base] = change.after
+        self.private.changed(change)
 
     def reply(self, update: Update) -> None:
         """Answers with what the store overwrote."""
@@ -169,7 +175,7 @@ class Converter:
         self.counts["stores for another address space's task"] += not line.is_own
         for change in changes:
             for each in self.split(change):
-                self.update(each, line.task, line.pcs)
+                self.update(each, line.task, line.pcs, line.processor)
                 self.note_stored(each, line.task)
 
     def split(self, change: Change) -> list[Change]:
@@ -208,6 +214,8 @@ class Converter:
             self.trace.reply(call, len(self.trace.log), answer.kind, value=answer.value)
         self.sources.append(Source(self.name(call), f"processor {processor}", (pc,) if pc else ()))
         self.counts["accesses" if answer.kind == ALLOWED else "page faults"] += 1
+        if answer.kind == ALLOWED:
+            self.users.used(processor, address, self.pages)
 
     def fault(self, line: Fault) -> None:
         access = 2 if line.code & 16 else line.code >> 1 & 1
@@ -250,20 +258,37 @@ class Converter:
         """Of what a task has stored no page allows more than was promised before, and wasn't changed by another call since."""
         for base in sorted(self.stored.pop(task, ())):
             page = self.pages.get(base)
+            if page and self.private.has_anothers_frame(base, page, task):
+                self.keep_promise(base, UNWRITTEN, task, TWICE)
+                page = self.pages.get(base)
             for allowed in self.promises.exceeded(base, base + BYTES[page.size], page.rights, task) if page else ():
                 self.keep_promise(base, allowed, task, LATER)
                 break
 
     def returned(self, line: Returned) -> None:
         """After mprotect or munmap no page of its range allows more than it said: where one does, the log has what was promised."""
+        self.private.returned(line)
         self.promises.returned(*line)
         if taken := taken_away(line):
-            begin, end, allowed = taken
-            over = self.windows.over_for_others(line.task, begin, end, functools.partial(self.last_promised, line.task), allowed)
-            self.answer(over, "promised by the return of another task's system call")
+            self.end_for_others(line.task, *taken)
         if line.number in (*PROTECTS, MUNMAP) and not line.result:
             self.look_at_range(line)
+        if is_fork(line):
+            self.forked(line.task)
         self.look_at_stored(line.task)
+
+    def end_for_others(self, task: int, begin: int, end: int, allowed: int | None) -> None:
+        over = self.windows.over_for_others(task, begin, end, functools.partial(self.last_promised, task), allowed)
+        self.answer(over, "promised by the return of another task's system call")
+
+    def forked(self, task: int) -> None:
+        """No page of a private mapping may be written that was there when the fork began: the child has it too."""
+        entered = self.entered.get(task, 0)
+        for begin, end in list(self.private.shared_by_fork(task)):
+            self.end_for_others(task, begin, end, UNWRITTEN)
+            for base in [each for each in self.pages if begin <= each < end]:
+                if self.pages[base].rights & ~UNWRITTEN and self.latest.get(base, (-1, task))[0] < entered:
+                    self.keep_promise(base, UNWRITTEN, task, FORKED)
 
     def last_promised(self, task: int, base: int) -> int:
         """The updates of a page up to which the call of a task says that what they took away is over: all that there are, where nothing
@@ -351,7 +376,8 @@ class Converter:
 
     def begin(self) -> None:
         """The tables that are there at first, where they have pages, are the start."""
-        self.pages = self.tables.begin()
+        for base, page in self.tables.begin().items():
+            self.apply(Change(base, None, page))
         self.start = self.tables.frames() if self.pages else {}
         self.start = {frame: dict(words) for frame, words in self.start.items()}
 
@@ -373,7 +399,7 @@ class Converter:
     def put(self, line: Line) -> None:
         """Takes the next line of a log; of one that is too long, the first part of it."""
         self.is_cut = self.is_cut or self.is_enough()
-        if self.options.chain and not self.tables.linked and isinstance(line, Store | Access | Fault | Released):
+        if self.options.chain and not self.tables.linked and isinstance(line, Store | Access | Fault | Released | Returned):
             self.begin()
         if not self.is_cut or isinstance(line, Symbol):
             self.take(line)
@@ -400,7 +426,7 @@ class Converter:
         kinds = ["stores", "maps", "unmaps", "protects", "accesses", "page faults", *(["releases"] if self.options.chain else [])]
         lines = [", ".join(f"{self.counts[kind]} {kind}" for kind in kinds) + f", {len(self.pages)} pages at the end"]
         if self.options.chain:
-            lines.append("met: " + ", ".join(f"{self.counts[kind]} {kind}" for kind in MET))
+            lines.append(met.summary(self.counts))
         lines += [f"{kind}: {count}" for kind, count in sorted(self.counts.items()) if kind not in (*kinds, *MET) and count]
         return "\n".join(lines + self.notes)
 

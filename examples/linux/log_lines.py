@@ -11,6 +11,7 @@ from typing import NamedTuple
 
 
 class Store(NamedTuple):
+    processor: int
     task: int
     is_own: bool        # by a processor that has this address space loaded
     pcs: tuple[int, ...]    # of the store, and behind the calls that led there
@@ -133,7 +134,7 @@ def entered(words: list[str]) -> Entered:
 
 
 def store(words: list[str]) -> Store:
-    return Store(number(words[2]), words[3] == "1", tuple(map(number, [words[4], *words[9:]])), *map(number, words[5:9]))
+    return Store(int(words[1]), number(words[2]), words[3] == "1", tuple(map(number, [words[4], *words[9:]])), *map(number, words[5:9]))
 
 
 def released(words: list[str]) -> Released:

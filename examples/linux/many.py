@@ -253,7 +253,7 @@ def record_times(kernel: Kernel, runs: list[Run], schedule: Schedule) -> None:
         again = [Run(run.name, run.what, times=schedule.times) for run in runs]
         record_once(kernel, again, replace(schedule, seed=schedule.seed + number))
         for run in again:
-            run.found = run.is_found()
+            run.found = int(run.is_found())
         if number:
             again = [(old if old.is_found() else new).counted(old.found + new.found) for old, new in zip(runs, again)]
         runs[:] = again

@@ -196,6 +196,10 @@ PLANTS = {
                    is_given=True),
     "migrate": Plant("compaction moves a page, and doesn't flush", (Silenced("ptep_clear_flush", "flush_tlb_mm_range"),), "compacted",
                      is_given=True),
+    "fork-write": Plant("fork leaves the pages that it shares writable for the parent",
+                        (Patched("copy_page_range", bytes.fromhex("f0418027fd"), bytes.fromhex("f0418027ff")),), "cow"),
+    "zeros-write": Plant("the one page of zeros, which each process has, is mapped writable",
+                         (Patched("__handle_mm_fault", bytes.fromhex("4981ce00020000"), bytes.fromhex("4981ce02020000")),), "zeros"),
     "no-unmap": Plant("munmap leaves the pages mapped", (Replaced("unmap_page_range", RETURN),), "threads", 5),
 }
 

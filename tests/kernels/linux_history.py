@@ -72,7 +72,7 @@ def check_printed() -> None:
     table = loaded("table")
     lines = table.rows_of_history([run(f"912efa17e512{SOUND}", "segments 4"), run("912efa17e512", "segment 1; no 24 Stale 5")])
     check("a row of history has the evidence, and what its twin met", lines[2].endswith(
-        "| `segment 1; no 24 Stale 5` | touch u r 0x5000, answered `allowed 0x9000`; first < s | `segments 4`, met 7/0/0 |"), lines)
+        "| `segment 1; no 24 Stale 5` | touch u r 0x5000, answered `allowed 0x9000`; first < s | `segments 4`, met 7/0/0/0 |"), lines)
     check("and how the bug is put back", len(lines) == 7 and lines[6].startswith("| `912efa17e512` | ")
           and " | 5.10.24-1 | " in lines[6], lines)
 

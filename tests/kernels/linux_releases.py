@@ -201,11 +201,17 @@ def check_returns_of_others() -> None:
 def check_met() -> None:
     """How much a yes says something about."""
     summary = converted(UNMAPPED + SEEN + RELEASED + RELEASED.replace(" 9 1", " 8 1") + BEGUN + OTHERS).summary().splitlines()
-    check("accesses and releases of before a flush are counted", summary[1] == "met: 1 accesses between a store and its flush, "
-          "0 updates that another task's flush ended, 1 releases while something wasn't flushed", summary)
-    summary = converted(UNMAPPED + BEGUN + OTHERS + SEEN + RELEASED).summary().splitlines()
-    check("and flushes for another task", summary[1] == "met: 0 accesses between a store and its flush, "
-          "1 updates that another task's flush ended, 0 releases while something wasn't flushed", summary)
+    check("accesses and releases of before a flush are counted", summary[1] == "met: 1 accesses between a store and its flush, 0 updates "
+          "that another task's flush ended, 1 releases while something wasn't flushed, 0 pages taken away that another processor had used",
+          summary)
+    summary = converted(SEEN + UNMAPPED + BEGUN + OTHERS).summary().splitlines()
+    check("and flushes for another task, and pages that others had used", summary[1] == "met: 0 accesses between a store and its flush, "
+          "1 updates that another task's flush ended, 0 releases while something wasn't flushed, 1 pages taken away that another processor "
+          "had used", summary)
+    for name, log in (("nothing was taken away", SEEN), ("one processor alone had it", SEEN.replace("@access 2", "@access 0") + UNMAPPED)):
+        summary = converted(log).summary().splitlines()
+        check(f"where {name} a yes says little", summary[1].endswith(" 0 pages taken away that another processor had used: a yes says little"),
+              summary)
 
 
 def check_shown() -> None:

@@ -50,11 +50,11 @@ def check_printed() -> None:
     suite = xml.etree.ElementTree.fromstring(results.junit("planted", table.results_of(runs)).partition("\n")[2])
     cases = {case.get("name"): [each.get("message") for each in case] for case in suite}
     check("an XML file as JUnit's", suite.get("tests") == "5" and suite.get("failures") == "2" and cases
-          == {"found": [], "missed": ["`segments 3`, met 0/0/0"], "unseen": [], "ended": ["the guest ended & more"], "pair": []}, cases)
+          == {"found": [], "missed": ["`segments 3`, met 0/0/0/0"], "unseen": [], "ended": ["the guest ended & more"], "pair": []}, cases)
     row = table.rows(runs)[2]
     programs = table.rows_of_programs([Run("sqlite", PROGRAMS["sqlite"], ["segments 2"], [], "", collections.Counter(maps=1000, unmaps=2,
                                                                                                               accesses=3), 4.4)])
-    check("a row of a program", programs[2].endswith(" | 4 | 1,002 | 3 | `segments 2`, met 0/0/0 |"), programs[2])
+    check("a row of a program", programs[2].endswith(" | 4 | 1,002 | 3 | `segments 2`, met 0/0/0/0 |"), programs[2])
     check("a row of the table", row == "| `found` | a <bug> | `segment 1; no 24 Stale 5` | first < second | 1 | 2 |", row)
 
 

@@ -15,4 +15,7 @@ void give_equal_pages(void);
 /* By compaction, which moves pages. */
 void give_by_compaction(void);
 
+/* Pages that are read first have one frame, that of zeros, which nobody is given; a store that goes there is taken back. */
+void read_zeros(void);
+
 #endif

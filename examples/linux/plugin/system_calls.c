@@ -9,12 +9,21 @@
 /* Offsets in struct pt_regs. */
 enum registers { FOURTH = 0x38, THIRD = 0x60, SECOND = 0x68, FIRST = 0x70, NUMBER = 0x78 };
 
+/* Whether it copies the address space: clone without CLONE_VM, or fork. */
+static int is_fork(uint64_t number, uint64_t first)
+{
+	enum { CLONE = 56, FORK = 57, CLONE_VM = 0x100 };
+
+	return number == FORK || (number == CLONE && !(first & CLONE_VM));
+}
+
 /* Those whose return says something of pages that no store has changed. */
-static int promises(uint64_t number)
+static int promises(uint64_t number, uint64_t first)
 {
 	enum { MPROTECT = 10, MUNMAP = 11, MREMAP = 25, MADVISE = 28, PKEY_MPROTECT = 329 };
 
-	return number == MPROTECT || number == MUNMAP || number == MREMAP || number == MADVISE || number == PKEY_MPROTECT;
+	return number == MPROTECT || number == MUNMAP || number == MREMAP || number == MADVISE || number == PKEY_MPROTECT
+		|| is_fork(number, first);
 }
 
 /* Whether a system call may change what is mapped. */
@@ -40,11 +49,11 @@ void system_calls_begins(unsigned cpu, uint64_t at)
 
 int system_calls_returns(unsigned cpu, uint64_t at)
 {
-	uint64_t number = guest_word(at + NUMBER);
+	uint64_t number = guest_word(at + NUMBER), first = guest_word(at + FIRST);
 
-	if (!changes_mappings(number))
+	if (!changes_mappings(number) && !is_fork(number, first))
 		return 0;
 	say("@returned %u %" PRIx64 " %" PRIu64 " %" PRIx64 " %" PRIx64 " %" PRIx64 " %" PRIx64 " %" PRIx64 "\n", cpu, guest_task(cpu), number,
-		guest_word(at + FIRST), guest_word(at + SECOND), guest_word(at + THIRD), guest_word(at + RESULT), guest_word(at + FOURTH));
-	return promises(number);
+		first, guest_word(at + SECOND), guest_word(at + THIRD), guest_word(at + RESULT), guest_word(at + FOURTH));
+	return promises(number, first);
 }

@@ -21,7 +21,7 @@
  *     @released CPU TASK PC FRAME COUNT               the kernel frees so many frames, which the address space had
  *     @user CPU TASK                                  a task that had taken something away is in user mode again
  *     @entered CPU TASK NUMBER A0 A1 A2 A3            a system call begins
- *     @returned CPU TASK NUMBER A0 A1 A2 RESULT A3    one that changes mappings ends
+ *     @returned CPU TASK NUMBER A0 A1 A2 RESULT A3    one that changes mappings, or forks, ends
  *     @marked CPU TASK VALUE                          the guest stored to the page of marks
  *     @dump FRAME, @entry FRAME INDEX WORD            a table at the end, from memory
  *     @freed FRAME LEVEL                              one that is linked and that the kernel doesn't hold as a table
