@@ -2,6 +2,7 @@
 import collections
 import os
 import re
+import tempfile
 from unittest import mock
 
 import convert
@@ -15,11 +16,14 @@ from linux_releases import KEPT, Memory, call_of, judged
 from linux_table import loaded
 from many import Run, Schedule
 from plants import PLANTS, REST_PLACES, FlushedLate, Patched, joined, rest_at
+from source_bugs import CHANGES, NUMBERS, VARIABLE, Number
+from source_bugs import PLANTS as OF_SOURCE
 from workloads import planted
 
 # Logs that were kept: of a bug, and of the same process without it; what is said of each as a chain
 LOGS = (("CVE-2021-4002", "segment 0/no 24 Stale 938", "segments 1"), ("99baac21e458", "segment 0/no 24 Stale 1436", "segments 3"),
-        ("CVE-2022-39188", "segment 0/no 25 Reachable 1406", "segments 2"))
+        ("CVE-2022-39188", "segment 0/no 25 Reachable 1406", "segments 2"),
+        ("CVE-2024-47674", "segment 0/no 25 Reachable 898", "segments 1"))
 SHOWN = ["call 5, thread 1: touch u r 0x5000, answered `allowed 0x9000`", "answered before it: call 4",
          "  of task 1, at 0x1 first+0x5, called by s+0x6"]
 
@@ -116,6 +120,32 @@ def check_code() -> None:
           and added[31:36] == call_of(place + 31, flush) and added[36:39] == b"\x58\x5b\xc3"
           and added[9:14] == b"\x50\x48\x8b\x7b\x10", added.hex())
     check("a call that isn't there is named", "outer of this kernel, 6, doesn't call flush_tlb_mm_range" in said, said)
+
+
+def check_source() -> None:
+    """Linux's source is changed where a text is once, and each bug has a number of its own."""
+    build = loaded("build_kernel")
+    with tempfile.TemporaryDirectory() as folder:
+        for file in {file for file, _, _ in CHANGES}:
+            os.makedirs(os.path.dirname(f"{folder}/{file}"), exist_ok=True)
+            with open(f"{folder}/{file}", "w") as out:
+                out.write("".join(f"{before}\n\n" for each, before, _ in CHANGES if each == file))
+        build.change(folder)
+        texts = {file: open(f"{folder}/{file}").read() for file, _, _ in CHANGES}
+        check("texts of the source are replaced", all(after in texts[file] for file, _, after in CHANGES))
+        build.change(folder)
+        check("once", texts == {file: open(f"{folder}/{file}").read() for file in texts})
+        with open(f"{folder}/mm/rmap.c", "w") as out:
+            out.write("another source\n")
+        said = missing(build.change, folder)
+        check("a text that isn't there is named", said == f"{folder}/mm/rmap.c has 0 times: if (pending != flushed) {{", said)
+    numbers = set(re.findall(rf"{VARIABLE} [!=]= (\d+)", " ".join(after for _, _, after in CHANGES)))
+    check("each bug has its number in the source", numbers == {str(each) for each in NUMBERS.values()}, numbers)
+    kernel, memory = Kernel("6", "", [], [(1 << 63, VARIABLE)], None), Memory(1 << 63, bytes(8))
+    Number(7).plant(kernel, memory)
+    check("which is stored to the variable", memory.code == b"\x07" + bytes(7), memory.code)
+    check("and no row that a kernel of Debian's has is named so", len(joined(PLANTS, with_twins(), OF_SOURCE)) == len(PLANTS)
+          + 2 * len(HISTORY) + len(OF_SOURCE) and len(OF_SOURCE) == 2 * len(NUMBERS))
 
 
 def check_kept() -> None:

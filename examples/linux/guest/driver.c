@@ -13,6 +13,8 @@
 
 #define DRIVER "/dev/nrvs_driver"
 #define PAGES 8
+#define TABLE (512 * PAGE) /* what one table translates */
+#define FAILING ((off_t)1 << 32) /* where the driver's file is mapped at once, and fails */
 
 static struct {
 	int file;
@@ -93,4 +95,24 @@ void let_driver_free_pages(void)
 void let_driver_free_high_pages(void)
 {
 	let_free_from((uint64_t)1 << 63);
+}
+
+/* The first half has a table already, which a page below it needs; for the second half there is none, and the driver gets none. */
+void let_driver_fail(void)
+{
+	uint64_t half = PAGES / 2 * PAGE;
+
+	if (!opened())
+		return;
+	for (unsigned round = 0; round < rounds; round++) {
+		uint64_t end = 0x13a000000 + (uint64_t)round * 4 * TABLE + TABLE;
+		char *below = map_at(end - half - PAGE, PAGE, READ_WRITE, PRIVATE, -1), *at;
+
+		touch(below, PAGE);
+		at = mmap((char *)end - half, PAGES * PAGE, READ_WRITE, MAP_SHARED | MAP_FIXED_NOREPLACE, driver.file, FAILING);
+		if (at != MAP_FAILED || errno != ENOMEM)
+			wrong++, printf("WRONG the driver doesn't fail: %s\n", at == MAP_FAILED ? strerror(errno) : "it maps its pages");
+		munmap(below, PAGE);
+	}
+	close(driver.file);
 }

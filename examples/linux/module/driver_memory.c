@@ -1,9 +1,11 @@
 /*
  * A module for the guest's kernel: a driver that gives processes pages of its own, which aren't the kernel's to count (VM_PFNMAP). Its file is
  * /dev/nrvs_driver, in which they are again and again. An ioctl takes them back: the driver unmaps them from whoever maps them, and frees
- * them; with a number other than 0 it looks for maps from an offset on alone.
+ * them; with a number other than 0 it looks for maps from an offset on alone. From the offset FAILING on the pages of a mapping are mapped at
+ * once, but there is no memory for a table: mmap fails behind those for which there is one, and the driver frees all of them.
  */
 #include <linux/fs.h>
+#include <linux/kprobes.h>
 #include <linux/miscdevice.h>
 #include <linux/mm.h>
 #include <linux/module.h>
@@ -11,6 +13,7 @@
 #include <linux/version.h>
 
 #define PAGES 8
+#define FAILING (1ul << (32 - PAGE_SHIFT)) /* in pages */
 
 static struct page *pages[PAGES];
 static DEFINE_MUTEX(lock); /* while it is held, no page is given or taken back */
@@ -32,12 +35,48 @@ static vm_fault_t give(struct vm_fault *fault)
 
 static const struct vm_operations_struct mapping = { .fault = give };
 
+static struct task_struct *failing;
+
+static int is_of_others(struct kretprobe_instance *probe, struct pt_regs *registers)
+{
+	return current != failing;
+}
+
+static int fail(struct kretprobe_instance *probe, struct pt_regs *registers)
+{
+	regs_set_return_value(registers, -ENOMEM);
+	return 0;
+}
+
+static int map_at_once(struct vm_area_struct *area)
+{
+	struct kretprobe no_table = { .kp.symbol_name = "__pte_alloc", .entry_handler = is_of_others, .handler = fail };
+	unsigned long bytes = area->vm_end - area->vm_start;
+	unsigned int order = get_order(bytes);
+	struct page *first = alloc_pages(GFP_HIGHUSER | __GFP_ZERO, order);
+	int error = first ? register_kretprobe(&no_table) : -EAGAIN;
+
+	if (error)
+		return error;
+	split_page(first, order);
+	failing = current;
+	error = remap_pfn_range(area, area->vm_start, page_to_pfn(first), bytes, area->vm_page_prot);
+	failing = NULL;
+	unregister_kretprobe(&no_table);
+	if (error)
+		for (unsigned int k = 0; k < 1u << order; k++)
+			__free_page(first + k);
+	return error;
+}
+
 static int map(struct file *file, struct vm_area_struct *area)
 {
 	const unsigned long flags = VM_PFNMAP | VM_DONTEXPAND | VM_DONTDUMP;
 
 	if (!(area->vm_flags & VM_SHARED))
 		return -EINVAL;
+	if (area->vm_pgoff == FAILING)
+		return map_at_once(area);
 #if LINUX_VERSION_CODE >= KERNEL_VERSION(6, 3, 0)
 	vm_flags_set(area, flags);
 #else
