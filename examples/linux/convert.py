@@ -15,6 +15,7 @@ the store or the access, and those to which the calls return that led there.
 How, and why so, is in README.md. Nothing here is verified, and nothing depends on it.
 """
 import argparse
+import bisect
 import collections
 import functools
 import lzma
@@ -283,10 +284,10 @@ class Converter:
 
     def forked(self, task: int) -> None:
         """No page of a private mapping may be written that was there when the fork began: the child has it too."""
-        entered = self.entered.get(task, 0)
+        entered, bases = self.entered.get(task, 0), sorted(self.pages)
         for begin, end in list(self.private.shared_by_fork(task)):
             self.end_for_others(task, begin, end, UNWRITTEN)
-            for base in [each for each in self.pages if begin <= each < end]:
+            for base in bases[bisect.bisect_left(bases, begin):bisect.bisect_left(bases, end)]:
                 if self.pages[base].rights & ~UNWRITTEN and self.latest.get(base, (-1, task))[0] < entered:
                     self.keep_promise(base, UNWRITTEN, task, FORKED)
 
@@ -425,8 +426,7 @@ class Converter:
         """One line for what is in the trace, and one for each that isn't."""
         kinds = ["stores", "maps", "unmaps", "protects", "accesses", "page faults", *(["releases"] if self.options.chain else [])]
         lines = [", ".join(f"{self.counts[kind]} {kind}" for kind in kinds) + f", {len(self.pages)} pages at the end"]
-        if self.options.chain:
-            lines.append(met.summary(self.counts))
+        lines.append(met.summary(self.counts, bool(self.options.chain)))
         lines += [f"{kind}: {count}" for kind, count in sorted(self.counts.items()) if kind not in (*kinds, *MET) and count]
         return "\n".join(lines + self.notes)
 

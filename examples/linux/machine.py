@@ -2,6 +2,7 @@
 import functools
 import lzma
 import os
+import re
 import select
 import shutil
 import socket
@@ -41,6 +42,7 @@ UNUSED = shutil.ignore_patterns("doc", "man", "locale", "gconv", "info", "icons"
 WORKLOAD = "workload"
 SECOND = "second-"              # a second copy of the plugin watches a process while the first watches nested tables
 TAG, SECOND_TAG = "@", "%"                          # with which their lines begin
+PARTS = re.compile(r"^WRONG (\d+ parts \S+)", re.M)   # of a process: guest/parts.c has another number than one of this name
 
 
 @dataclass(frozen=True)
@@ -197,6 +199,12 @@ def remove(path: str) -> None:
 
 def text_of(path: str) -> str:
     return open(path, errors="replace").read() if os.path.exists(path) else ""
+
+
+def wrong_parts(serial: str) -> str:
+    """What is wrong where a part of the process isn't there, or is there twice; else nothing."""
+    found = PARTS.search(serial)
+    return f"the process has {found.group(1)}" if found else ""
 
 
 def plant(name: str, guest: Guest, kernel: Kernel, qemu: subprocess.Popen[bytes]) -> None:

@@ -29,6 +29,7 @@ PATIENCE = 600          # seconds that a run may take: threads may wait for ever
 MINUTE = 60             # seconds after which a program's process is ended
 MEMORY = 2048           # MiB, for programs
 TRIES = 8
+UNWATCHED = "nothing was watched"       # on a busy machine QEMU may begin to follow the guest's code too late
 AGAIN = re.compile("^@marked [0-9]+ [0-9a-f]+ 5$")
 WRONG = re.compile("^WRONG|BUG:|Bad page|segfault|Oops", re.M)
 
@@ -59,8 +60,10 @@ class Run:
     found: int = 0                                          # .. in so many of these runs it was a no
 
     def is_missed(self) -> bool:
-        """A bug that a processor can see, and in this run none did: QEMU went to another processor at other times."""
-        return not self.failure and isinstance(self.what, Plant) and self.what.is_seen and not self.is_found()
+        """A bug that a processor can see, and in this run none did, since QEMU went to another processor at other times; or a process that
+        was missed."""
+        is_unmet = not self.failure and isinstance(self.what, Plant) and self.what.is_seen and not self.is_found()
+        return is_unmet or self.failure == UNWATCHED
 
     def is_found(self) -> bool:
         return any("no " in verdict for verdict in self.verdicts)
@@ -203,7 +206,7 @@ class Boot:
             run.events.update(chain.converter.counts)
             run.shown += stale.of_chain(chain, f"{machine.OUT}/{self.name}-{run.name}-{self.tags.index(tag)}")
         if not any(chain.converter.tables.root for chain in self.chains):
-            run.failure = run.failure or "nothing was watched"
+            run.failure = run.failure or UNWATCHED
 
     def begin_run(self) -> None:
         self.end_run()
@@ -228,6 +231,7 @@ class Boot:
         parts = re.split(r"^RUN (\S+)\s*$", self.text(), flags=re.M)
         for name, said in zip(parts[1::2], parts[2::2]):
             self.runs[name].guest = said.replace("\r", "")
+            self.runs[name].failure = self.runs[name].failure or machine.wrong_parts(said)
         if self.begun and f"OVER {self.begun[-1].name}" not in self.text():
             why = (self.failures or ["the guest ended"])[0]
             self.begun[-1].failure = "" if self.begun[-1].is_found() else why

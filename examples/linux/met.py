@@ -9,10 +9,11 @@ BETWEEN, ENDED, GIVEN, USED = MET = ("accesses between a store and its flush", "
                                      "releases while something wasn't flushed", "pages taken away that another processor had used")
 
 
-def summary(counts: Mapping[str, int]) -> str:
-    """One line."""
-    line = "met: " + ", ".join(f"{counts.get(kind, 0)} {kind}" for kind in MET)
-    return line if any(counts.get(kind, 0) for kind in MET) else line + ": a yes says little"
+def summary(counts: Mapping[str, int], is_chain: bool) -> str:
+    """One line. A trace has no releases, and no accesses between a store and its flush."""
+    kinds = MET if is_chain else (ENDED, USED)
+    line = "met: " + ", ".join(f"{counts.get(kind, 0)} {kind}" for kind in kinds)
+    return line if any(counts.get(kind, 0) for kind in kinds) else line + ": a yes says little"
 
 
 @dataclass

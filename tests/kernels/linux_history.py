@@ -1,11 +1,14 @@
 """Tests of bugs that Linux was shipped with (examples/linux/history.py), for tests/linux: the table, their code, and logs."""
 import collections
+import contextlib
+import io
 import os
 import re
 import tempfile
 from unittest import mock
 
 import convert
+import machine
 import many
 from convert import Options
 from counting import check
@@ -52,6 +55,20 @@ def check_rows() -> None:
     check("no two parts have one name", len(names) > 20 and len(set(names)) == len(names), names)
     lacking = [part for each in joined(PLANTS, HISTORY).values() for part in each.parts.split() if part not in names]
     check("each bug's parts are there", lacking == [], lacking)
+
+
+def check_parts() -> None:
+    """A part that isn't there, or is there twice, is an error of `table` and of `run`."""
+    text = "RUN no-ipi\nPLANT\nWRONG 2 parts lazy\r\nOVER no-ipi\nRUN mremap\nDONE, 0 wrong\nOVER mremap\n"
+    runs = [Run(name, PLANTS[name], ["segments 1"]) for name in ("no-ipi", "mremap")]
+    with mock.patch.object(machine, "record", lambda *_: None), mock.patch.object(many.Boot, "text", lambda _: text):
+        boot = many.Boot("many", Kernel("6", "", [], [], None), runs, Schedule(1))
+        boot.begun = runs
+        boot.record()
+    check("a part that is there twice is an error of its run", [each.failure for each in runs] == ["the process has 2 parts lazy", ""])
+    with contextlib.redirect_stdout(io.StringIO()):
+        said = missing(loaded("run").say_of, machine.Recording("WRONG 0 parts other\n", True), 1)
+    check("and one that isn't there", said == "the process has 0 parts other", said)
 
 
 def check_rests() -> None:

@@ -208,6 +208,10 @@ def check_met() -> None:
     check("and flushes for another task, and pages that others had used", summary[1] == "met: 0 accesses between a store and its flush, "
           "1 updates that another task's flush ended, 0 releases while something wasn't flushed, 1 pages taken away that another processor "
           "had used", summary)
+    second = UNMAPPED.replace(" 5 9067 0", " 6 0 8067") + SEEN.replace("5000 9000", "6000 8000") + UNMAPPED.replace(" 5 9067", " 6 8067")
+    summary = converted(second, Options()).summary().splitlines()
+    check("a trace has neither such accesses nor releases", summary[1] == "met: 0 updates that another task's flush ended, 1 pages taken away "
+          "that another processor had used", summary)
     for name, log in (("nothing was taken away", SEEN), ("one processor alone had it", SEEN.replace("@access 2", "@access 0") + UNMAPPED)):
         summary = converted(log).summary().splitlines()
         check(f"where {name} a yes says little", summary[1].endswith(" 0 pages taken away that another processor had used: a yes says little"),

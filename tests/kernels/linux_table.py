@@ -98,11 +98,14 @@ def check_run_again() -> None:
         for each in runs:
             is_met = each.name == "first" or each.name == "second" and seed == 8
             each.verdicts = ["segment 0; no 24 Stale 1" if is_met else "segments 3"]
+            each.failure = many.UNWATCHED if each.name == "missed" and seed == 7 else ""
 
     runs = [Run(name, PLANTS["no-ipi"]) for name in ("first", "second", "third")] + [Run("split", PLANTS["split"])]
+    runs.append(Run("missed", PLANTS["split"]))
     with mock.patch.object(many, "record_once", recorded):
         many.record(Kernel("6", "", [], [], None), runs, Schedule(7))
-    check("bugs that nobody met are run again", asked == [(["first", "second", "third", "split"], 7), (["second", "third"], 8)]
+    check("bugs that nobody met, and a process that was missed, are run again", asked
+          == [(["first", "second", "third", "split", "missed"], 7), (["second", "third", "missed"], 8)]
           + [(["third"], 7 + tries) for tries in range(2, many.TRIES)], asked)
     check("and keep what came of the last run", [(each.name, each.tries, each.is_found()) for each in runs]
-          == [("first", 1, True), ("second", 2, True), ("third", many.TRIES, False), ("split", 1, False)])
+          == [("first", 1, True), ("second", 2, True), ("third", many.TRIES, False), ("split", 1, False), ("missed", 2, False)])
