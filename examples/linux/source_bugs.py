@@ -8,7 +8,8 @@ from stub import Stub
 
 VARIABLE = "nrvs_bug"
 # Those that need no module of the kernel; the number of each is its place here
-NAMES = ("CVE-2018-18281", "97113eb39fa7", "CVE-2021-4002", "912efa17e512", "8f1d56f64f8d", "large-folios", "99baac21e458", "3ea277194daa")
+NAMES = ("CVE-2018-18281", "97113eb39fa7", "CVE-2021-4002", "912efa17e512", "8f1d56f64f8d", "large-folios", "99baac21e458", "3ea277194daa",
+         "a835429cda91")
 NUMBERS = {name: number for number, name in enumerate(NAMES, 1)}
 
 
@@ -39,6 +40,8 @@ CHANGES = (
      f"			if ({unless('large-folios')})\n				try_to_unmap_flush();\n			destroy_large_folio(folio);\n"),
     ("mm/mmu_gather.c", "	if (mm_tlb_flush_nested(tlb->mm)) {\n", f"	if (mm_tlb_flush_nested(tlb->mm) && {unless('99baac21e458')}) {{\n"),
     ("mm/rmap.c", "	if (pending != flushed) {\n", f"	if (pending != flushed && {unless('3ea277194daa')}) {{\n"),
+    ("arch/x86/kvm/mmu/tdp_mmu.c", "		if (flush)\n			kvm_flush_remote_tlbs(kvm);\n\n		rcu_read_unlock();\n",
+     f"		if (flush && {unless('a835429cda91')})\n			kvm_flush_remote_tlbs(kvm);\n\n		rcu_read_unlock();\n"),
 )
 OPTIONS = """64BIT SMP PRINTK TTY SERIAL_8250 SERIAL_8250_CONSOLE BLK_DEV_INITRD RD_GZIP BINFMT_ELF BINFMT_SCRIPT PROC_FS PROC_SYSCTL
  PROC_PAGE_MONITOR SYSFS DEVTMPFS TMPFS SHMEM HUGETLBFS HUGETLB_PAGE TRANSPARENT_HUGEPAGE TRANSPARENT_HUGEPAGE_ALWAYS KSM COMPACTION

@@ -26,7 +26,8 @@ from workloads import planted
 # Logs that were kept: of a bug, and of the same process without it; what is said of each as a chain
 LOGS = (("CVE-2021-4002", "segment 0/no 24 Stale 938", "segments 1"), ("99baac21e458", "segment 0/no 24 Stale 1436", "segments 3"),
         ("CVE-2022-39188", "segment 0/no 25 Reachable 1406", "segments 2"),
-        ("CVE-2024-47674", "segment 0/no 25 Reachable 898", "segments 1"))
+        ("CVE-2024-47674", "segment 0/no 25 Reachable 898", "segments 1"),
+        ("a835429cda91", "segment 0/no 25 Reachable 422", "segments 3"))
 SHOWN = ["call 5, thread 1: touch u r 0x5000, answered `allowed 0x9000`", "answered before it: call 4",
          "  of task 1, at 0x1 first+0x5, called by s+0x6"]
 

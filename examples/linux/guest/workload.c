@@ -112,6 +112,11 @@ static int fork_watched(uint64_t pages)
 	return report("fork", end_of(child));
 }
 
+static int is_of_monitor(const char *what)
+{
+	return !strcmp(what, "monitor") || !strcmp(what, "logged") || !strcmp(what, "pair") || !strcmp(what, "sparse");
+}
+
 static int monitor_watched(const char *what, char **names)
 {
 	int others, is_planted = *names != NULL;
@@ -123,6 +128,8 @@ static int monitor_watched(const char *what, char **names)
 	say(MARK_NEXT);
 	if (!strcmp(what, "monitor"))
 		others = run_monitor(seed, rounds);
+	else if (!strcmp(what, "sparse"))
+		others = run_sparse(rounds);
 	else
 		others = !strcmp(what, "logged") ? run_logged(rounds) : run_pair(seed, rounds, is_planted);
 	printf("DONE, %d wrong\n", others);
@@ -248,7 +255,7 @@ int main(int count, char **words)
 		return exec_watched(1, MARK_LATER + seed, words + 3);
 	if (!strcmp(what, "attach") && count > 4)
 		return attach((unsigned)seed, MARK_CHOSEN + rounds, words + 4);
-	if ((!strcmp(what, "monitor") || !strcmp(what, "logged") || !strcmp(what, "pair")) && count > 3)
+	if (is_of_monitor(what) && count > 3)
 		return monitor_watched(what, words + 4);
 	if (!strcmp(what, "fork") && count > 3)
 		return fork_watched(rounds);
