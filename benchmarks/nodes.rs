@@ -304,7 +304,7 @@ fn on_std(threads: usize, count: usize, work: Work) -> (Vec<Done>, Duration) {
     replicas::in_threads(threads, |thread| {
         replicas::calls(thread, work, |op, address| match op {
             Some(op) => update(thread, op),
-            None => nodes.read(thread % count, |space, _| space.resolve(address)),
+            None => nodes.read(thread % count, |space, _| space.resolve(address)).expect("a read"),
         })
     })
 }
