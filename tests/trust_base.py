@@ -298,7 +298,7 @@ def told_faults():
     """What DEFINITIONS.md has otherwise than the code of the faults, which are numbered as they are declared. And the faults that a table of
     the man page of explain lacks, and those that it has beside: each has its lines, its sentence, what it most often is, and its members."""
     rows = re.findall(r"^\| (\d+) \| `(\w+)", (ROOT / "docs/DEFINITIONS.md").read_text(), re.M)
-    declared = parts_of_type("Fault", ROOT / "crates/nr_trace/src/fault.rt")
+    declared = parts_of_type("Fault", ROOT / "crates/nr_trace/src/refusals/fault.rt")
     if rows != [(str(number_), name) for number_, name in enumerate(declared, 1)]:
         yield f"DEFINITIONS.md has other faults than the code: {' '.join(declared)}"
     tables = {"Lines": [], "Sentence": [], "Most often": [], "Members of `evidence`, beside `fault`": []}

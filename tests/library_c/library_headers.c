@@ -60,7 +60,7 @@ VALUE(NRVS_NOT_FIRST, 19);
 VALUE(NRVS_APART, 20);
 VALUE(NRVS_PINNED, 21);
 
-/* Flushes: `flush_numbers` there; the most stores and frames: `MOST_STORES`, `MOST_UNLINKED` of crates/vs_plan/src/plan.rt; attributes:
+/* Flushes: `flush_numbers` there; the most stores and frames: `MOST_STORES`, `MOST_UNLINKED` of crates/vs_plan/src/plans/plan.rt; attributes:
  * bits 3 to 11 and 52 to 62, `AreBits` of crates/vs_types/specs/Bits.antt.
  */
 VALUE(NRVS_FLUSH_NOTHING, 0);

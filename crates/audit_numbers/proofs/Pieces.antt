@@ -3,9 +3,9 @@ use Rattle.std.proofs.Common.{◌≡◌, ℕ, ◌<◌, ◌≤◌, List, [], ◌�
 use Rattle.std.specs.Prelude.{Bool, IfOk}
 use Rattle.std.proofs.lemmas.List.{append-nil}
 use Rattle.nr_trace.specs.FirstFault.{HasSegmentFault}
-use Rattle.nr_trace.specs.declared.fault.Fault.{Fault}
-use Rattle.nr_trace.specs.declared.fault.Format.TheVariants.{Truncated}
-use Rattle.nr_trace.specs.declared.version.Form.TheVariants as forms
+use Rattle.nr_trace.specs.declared.refusals.fault.Fault.{Fault}
+use Rattle.nr_trace.specs.declared.refusals.fault.Format.TheVariants.{Truncated}
+use Rattle.nr_trace.specs.declared.formats.version.Form.TheVariants as forms
 use Rattle.nr_chain.specs.Fed.{ChainFed, IsKeptOf}
 use Rattle.nr_joined.specs.Run.{Run}
 use Rattle.nr_audit.specs.Segments.{run_after}
@@ -13,8 +13,8 @@ use Rattle.nr_chain.specs.Bytes.{layout_before, EndsWith, GoesOnSo}
 use Rattle.nr_chain.specs.Headline.{IsRightChain}
 use Rattle.nr_chain.specs.Verdict.{FeedsChain}
 use Rattle.nr_chain.specs.declared.chain.Step.TheVariants as steps
-use Rattle.nr_audit.specs.declared.met.Met.{Met}
-use Rattle.nr_audit.specs.declared.verdict.Verdict.TheVariants.{Yes}
+use Rattle.nr_audit.specs.declared.histories.met.Met.{Met}
+use Rattle.nr_audit.specs.declared.verdicts.verdict.Verdict.TheVariants.{Yes}
 use Rattle.nr_chain.proofs.Ends.{ends_first, none_is_short}
 use Rattle.nr_chain.proofs.FoundChains.{right_chain}
 use Rattle.nr_explain.specs.Progress.{ChainState, ReaderState, IsSeenOf}

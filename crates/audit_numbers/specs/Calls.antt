@@ -1,9 +1,9 @@
 -- What the calls for a chain answer.
 use Rattle.std.specs.Prelude.{◌≡◌, ℕ, ◌<◌, ◌≤◌, ◌++◌, List, [], ◌∷◌, length, take, Bool, is_some, if◌then◌else◌, Option, None, Some}
-use Rattle.nr_trace.specs.declared.fault.Fault.{Fault}
+use Rattle.nr_trace.specs.declared.refusals.fault.Fault.{Fault}
 use Rattle.nr_audit.specs.Verdict.{verdict_status}
-use Rattle.nr_audit.specs.declared.verdict.Verdict.{Verdict}
-use Rattle.nr_audit.specs.declared.verdict.Verdict.TheVariants.{Yes, No}
+use Rattle.nr_audit.specs.declared.verdicts.verdict.Verdict.{Verdict}
+use Rattle.nr_audit.specs.declared.verdicts.verdict.Verdict.TheVariants.{Yes, No}
 use Rattle.nr_chain.specs.Bytes.{GoesOnSo}
 use Rattle.nr_chain.specs.Headline.{IsRightChain}
 use Rattle.audit_texts.specs.ChainExplained.{IsChainExplained}

@@ -2,8 +2,8 @@
 use Rattle.std.specs.Prelude.{◌≡◌, ℕ, ◌++◌, List, Bool, is_some, Option, None, Some, IfSome}
 use Rattle.nr_trace.specs.Recording.{Recording}
 use Rattle.nr_trace.specs.FirstFault.{HasSegmentFault}
-use Rattle.nr_trace.specs.declared.fault.Fault.{Fault}
-use Rattle.nr_trace.specs.declared.fault.Format.TheVariants.{Truncated}
+use Rattle.nr_trace.specs.declared.refusals.fault.Fault.{Fault}
+use Rattle.nr_trace.specs.declared.refusals.fault.Format.TheVariants.{Truncated}
 use Rattle.nr_joined.specs.Run.{Run}
 use Rattle.nr_chain.specs.Bytes.{layout_before, GoesOnSo}
 use Rattle.nr_chain.specs.Fed.{ChainFed, IsKeptOf}

@@ -1,11 +1,11 @@
 -- Verdicts in numbers.
 use Rattle.std.specs.Prelude.{ℕ, length, Option, None, Some}
-use Rattle.nr_audit.specs.declared.verdict.Verdict.{Verdict}
-use Rattle.nr_audit.specs.declared.verdict.Verdict.TheVariants.{Yes, No}
-use Rattle.nr_trace.specs.declared.fault.Format.{Format}
-use Rattle.nr_trace.specs.declared.fault.Format.TheVariants as formats
-use Rattle.nr_trace.specs.declared.fault.Fault.{Fault}
-use Rattle.nr_trace.specs.declared.fault.Fault.TheVariants as faults
+use Rattle.nr_audit.specs.declared.verdicts.verdict.Verdict.{Verdict}
+use Rattle.nr_audit.specs.declared.verdicts.verdict.Verdict.TheVariants.{Yes, No}
+use Rattle.nr_trace.specs.declared.refusals.fault.Format.{Format}
+use Rattle.nr_trace.specs.declared.refusals.fault.Format.TheVariants as formats
+use Rattle.nr_trace.specs.declared.refusals.fault.Fault.{Fault}
+use Rattle.nr_trace.specs.declared.refusals.fault.Fault.TheVariants as faults
 use Rattle.audit_numbers.specs.declared.finding.Finding.{Finding}
 
 -- a fault that names an event, a place or a call

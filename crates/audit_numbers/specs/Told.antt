@@ -2,8 +2,8 @@
 use Rattle.std.specs.Prelude.{◌≡◌, ◌++◌, ℕ, nat_le, List, length, drop, if◌then◌else◌}
 use Rattle.nr_audit.specs.Headline.{AreRightWith}
 use Rattle.nr_audit.specs.Verdict.{IfYes, IsVerdictOf, verdict_status}
-use Rattle.nr_audit.specs.declared.verdict.Verdict.{Verdict}
-use Rattle.nr_audit.specs.declared.verdict.Verdict.TheVariants.{Yes, No}
+use Rattle.nr_audit.specs.declared.verdicts.verdict.Verdict.{Verdict}
+use Rattle.nr_audit.specs.declared.verdicts.verdict.Verdict.TheVariants.{Yes, No}
 use Rattle.audit_numbers.specs.Numbers.{finding_of}
 use Rattle.audit_numbers.specs.declared.finding.Finding.{Finding}
 

@@ -5,8 +5,8 @@ use Rattle.std.specs.Prelude.{if◌then◌else◌}
 use Rattle.nr_audit.specs.Meetings.{overlapping}
 use Rattle.nr_audit.specs.Headline.{AreRightWith}
 use Rattle.nr_audit.specs.Verdict.{IfYes, IsVerdictOf, verdict_status}
-use Rattle.nr_audit.specs.declared.verdict.Verdict.{Verdict}
-use Rattle.nr_audit.specs.declared.verdict.Verdict.TheVariants.{Yes, No}
+use Rattle.nr_audit.specs.declared.verdicts.verdict.Verdict.{Verdict}
+use Rattle.nr_audit.specs.declared.verdicts.verdict.Verdict.TheVariants.{Yes, No}
 use Rattle.audit_texts.specs.AuditJson.{named_verdict, told_verdict}
 use Rattle.audit_readers.specs.Answers.{audit_status, HasOverlapping, IsAudit, IsNamedAudit}
 use Rattle.audit_readers.specs.declared.audit.Found.{Found}

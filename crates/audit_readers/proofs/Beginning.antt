@@ -5,12 +5,12 @@ use Rattle.std.proofs.Common.{None, Result, Ok, Err, refl, sym, ap, ◌∙◌, s
 use Rattle.std.specs.Io.KnownBytes.{Consumes, IsAtEnd, Keeps}
 use Rattle.std.proofs.KnownBytes.{Consumes-kept, Consumes-nil, Consumes-trans}
 use Rattle.vs_types.specs.Space.{no_pages, pages}
-use Rattle.vs_types.specs.declared.depth.Depth.{Depth}
-use Rattle.vs_types.specs.declared.page.Page.{Page}
+use Rattle.vs_types.specs.declared.addresses.depth.Depth.{Depth}
+use Rattle.vs_types.specs.declared.addresses.page.Page.{Page}
 use Rattle.vs_types.proofs.Lists.{Contains-head}
 use Rattle.vs_types.proofs.Spaces.{holds_listed, no_pages_space, none_held}
-use Rattle.vs_types.specs.declared.refusal.Fail.{Fail}
-use Rattle.vs_types.specs.declared.refusal.Fail.TheVariants.{Memory, Refused}
+use Rattle.vs_types.specs.declared.requests.refusal.Fail.{Fail}
+use Rattle.vs_types.specs.declared.requests.refusal.Fail.TheVariants.{Memory, Refused}
 use Rattle.vs_walk.specs.Dump.{Image}
 use Rattle.vs_walk.specs.Traversal.{walk_fault}
 use Rattle.vs_walk.proofs.LawsOfSpaces.{translates_found}
@@ -19,11 +19,11 @@ use Rattle.nr_trace.specs.Spelling.{SpellsSegment}
 use Rattle.nr_trace.specs.FirstFault.{HasSegmentFault}
 use Rattle.nr_trace.specs.Feed.{EndsSegment, FedSegment, FeedsSegment, IsWhole}
 use Rattle.nr_trace.specs.Feed.Fed.{Stopped, Taken}
-use Rattle.nr_trace.specs.declared.fault.Fault.TheVariants as faults
-use Rattle.nr_trace.specs.declared.fault.Format.{Format}
-use Rattle.nr_trace.specs.declared.fault.Format.TheVariants.{Truncated}
-use Rattle.nr_trace.specs.declared.version.Form.TheVariants as forms
-use Rattle.nr_trace.specs.declared.fault.Fault.TheVariants.{StartMissing, StartShared, StartReserved}
+use Rattle.nr_trace.specs.declared.refusals.fault.Fault.TheVariants as faults
+use Rattle.nr_trace.specs.declared.refusals.fault.Format.{Format}
+use Rattle.nr_trace.specs.declared.refusals.fault.Format.TheVariants.{Truncated}
+use Rattle.nr_trace.specs.declared.formats.version.Form.TheVariants as forms
+use Rattle.nr_trace.specs.declared.refusals.fault.Fault.TheVariants.{StartMissing, StartShared, StartReserved}
 use Rattle.nr_audit.specs.Faults.{IsSoundAfter}
 use Rattle.nr_audit.specs.Start.{first_space, start_space}
 use Rattle.nr_audit.proofs.Judgements.{begins_of}

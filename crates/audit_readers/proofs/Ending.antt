@@ -1,16 +1,16 @@
 -- What is said of the end of a chain that was judged.
 use Rattle.std.proofs.Common.{◌≡◌, ◌⊎◌, ℕ, ◌++◌, inl, inr, Bool, false, List, [], ◌∷◌, Option, Some, None, Result, Ok, Err, IfOk, refl, sym, ap, ◌∙◌, subst}
 use Rattle.vs_types.specs.Space.{Space, pages, IsSpace}
-use Rattle.vs_types.specs.declared.depth.Depth.{Depth}
+use Rattle.vs_types.specs.declared.addresses.depth.Depth.{Depth}
 use Rattle.vs_plain.specs.Plain.{BoundedSpace}
 use Rattle.nr_joined.specs.Run.{Run, end_of}
 use Rattle.nr_audit.specs.Segments.{run_after}
-use Rattle.nr_audit.specs.declared.met.Totals.{Totals}
+use Rattle.nr_audit.specs.declared.histories.met.Totals.{Totals}
 use Rattle.nr_chain.specs.Bytes.{EndsWith}
 use Rattle.nr_chain.specs.Parts.{ComesTo}
 use Rattle.nr_chain.specs.Verdict.{IsSpaceAfter}
 use Rattle.audit_texts.specs.Listing.{pages_text}
-use Rattle.nr_trace.specs.declared.fault.Fault.{Fault}
+use Rattle.nr_trace.specs.declared.refusals.fault.Fault.{Fault}
 use Rattle.nr_chain.proofs.FoundChains.{right_chain}
 use Rattle.audit_readers.specs.Answers.{IsReadOf}
 use Rattle.audit_readers.specs.ChainPages.{IsChainEnd}

@@ -4,14 +4,14 @@ use Rattle.std.specs.Io.KnownBytes.{Consumes, IsAtEnd, Keeps}
 use Rattle.std.proofs.KnownBytes.{Consumes-nil, Consumes-kept, Consumes-trans}
 use Rattle.std.proofs.lemmas.List.{append-nil, length-append, length-take}
 use Rattle.vs_types.specs.Refusal.{IfRefused}
-use Rattle.vs_types.specs.declared.refusal.Fail.{Fail}
-use Rattle.vs_types.specs.declared.refusal.Fail.TheVariants as fails
+use Rattle.vs_types.specs.declared.requests.refusal.Fail.{Fail}
+use Rattle.vs_types.specs.declared.requests.refusal.Fail.TheVariants as fails
 use Rattle.nr_trace.specs.Recording.{Recording}
 use Rattle.nr_trace.specs.Spelling.{Spells}
 use Rattle.nr_trace.specs.Feed.{Ends, Fed, Feeds, HasLastingFault, HasNoFaultYet, Reads}
 use Rattle.nr_trace.specs.Feed.Fed.{Taken}
 use Rattle.nr_trace.specs.FirstFault.{HasFormatFault}
-use Rattle.nr_trace.specs.declared.fault.Format.{Format}
+use Rattle.nr_trace.specs.declared.refusals.fault.Format.{Format}
 use Rattle.nr_explain.specs.Units.{IfBad, IsBadFor, IsBadUnit, ReadsUnits}
 use Rattle.nr_explain.specs.declared.units.Unread.{Unread}
 use Rattle.nr_explain.specs.declared.units.Unread.TheVariants.{Memory, Bad}

@@ -5,7 +5,7 @@ use Rattle.vs_types.specs.Space.{pages, IsSpace}
 use Rattle.nr_trace.specs.Recording.{Recording}
 use Rattle.nr_audit.specs.Met.{no_totals}
 use Rattle.nr_audit.specs.Start.{first_space}
-use Rattle.nr_trace.specs.declared.fault.Fault.{Fault}
+use Rattle.nr_trace.specs.declared.refusals.fault.Fault.{Fault}
 use Rattle.nr_audit.proofs.FirstFaults.{one_first_after}
 use Rattle.vs_types.specs.Space.{Space}
 use Rattle.nr_trace.specs.Orders.{space_from}

@@ -10,10 +10,10 @@ use Rattle.audit_readers.specs.Answers.{IsReadOf, WritesReport}
 use Rattle.audit_readers.specs.Ends.{IsUnreadable}
 use Rattle.audit_readers.specs.declared.fault.ProgFault.{ProgFault}
 use Rattle.audit_readers.specs.declared.fault.ProgFault.TheVariants.{CannotRead, CannotWrite, Memory}
-use Rattle.nr_trace.specs.declared.fault.Fault.{Fault}
+use Rattle.nr_trace.specs.declared.refusals.fault.Fault.{Fault}
 use Rattle.nr_joined.specs.Run.{Run}
 use Rattle.nr_audit.specs.Met.{no_totals}
-use Rattle.nr_audit.specs.declared.met.Totals.{Totals}
+use Rattle.nr_audit.specs.declared.histories.met.Totals.{Totals}
 use Rattle.nr_chain.specs.Fed.{ChainFed, IsKeptOf}
 use Rattle.nr_chain.specs.Bytes.{EndsWith, GoesOnSo}
 use Rattle.nr_chain.specs.Verdict.{LastsNext}

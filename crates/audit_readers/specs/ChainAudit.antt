@@ -1,16 +1,16 @@
 -- What the audit of a chain answers to bytes, how much it reads, and what it has written where it gives no answer.
 use Rattle.std.specs.Prelude.{◌≡◌, ◌<◌, ◌≤◌, ◌⊎◌, ◌++◌, ℕ, true, List, [], ◌∷◌, length, Option, None, Some, unwrap_or}
 use Rattle.std.specs.Io.KnownBytes.{Appends, Consumes}
-use Rattle.nr_trace.specs.declared.fault.Fault.TheVariants.{Format}
-use Rattle.nr_trace.specs.declared.fault.Format.TheVariants.{Truncated}
-use Rattle.nr_trace.specs.declared.fault.Fault.{Fault}
+use Rattle.nr_trace.specs.declared.refusals.fault.Fault.TheVariants.{Format}
+use Rattle.nr_trace.specs.declared.refusals.fault.Format.TheVariants.{Truncated}
+use Rattle.nr_trace.specs.declared.refusals.fault.Fault.{Fault}
 use Rattle.nr_trace.specs.Recording.{Recording}
 use Rattle.nr_joined.specs.Run.{Run}
 use Rattle.nr_audit.specs.Met.{no_totals, totals_with, HasMet}
 use Rattle.nr_audit.specs.Segments.{run_after}
 use Rattle.nr_audit.specs.Start.{begins_in}
-use Rattle.nr_audit.specs.declared.met.Met.{Met}
-use Rattle.nr_audit.specs.declared.met.Totals.{Totals}
+use Rattle.nr_audit.specs.declared.histories.met.Met.{Met}
+use Rattle.nr_audit.specs.declared.histories.met.Totals.{Totals}
 use Rattle.nr_chain.specs.Bytes.{layout_before, BeginsWith, GoesOnSo}
 use Rattle.nr_chain.specs.Headline.{IsRightChain}
 use Rattle.audit_readers.specs.declared.fault.ProgFault.{ProgFault}

@@ -4,11 +4,11 @@ use Rattle.std.specs.Io.KnownBytes.{Consumes}
 use Rattle.vs_types.specs.Space.{pages, IsSpace}
 use Rattle.nr_trace.specs.Recording.{Recording}
 use Rattle.nr_trace.specs.FirstFault.{HasSegmentFault}
-use Rattle.nr_trace.specs.declared.fault.Format.TheVariants.{Truncated}
+use Rattle.nr_trace.specs.declared.refusals.fault.Format.TheVariants.{Truncated}
 use Rattle.nr_audit.specs.Faults.{IsSoundAfter}
 use Rattle.nr_audit.specs.Releases.{IsSettled}
 use Rattle.nr_audit.specs.Start.{first_space}
-use Rattle.nr_trace.specs.declared.fault.Fault.{Fault}
+use Rattle.nr_trace.specs.declared.refusals.fault.Fault.{Fault}
 use Rattle.nr_chain.specs.Bytes.{BeginsWith, GoesOnSo, SpellAll}
 use Rattle.nr_joined.specs.Run.{Run, end_of}
 use Rattle.nr_chain.specs.Headline.{IsRightChain}

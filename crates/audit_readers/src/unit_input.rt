@@ -3,8 +3,8 @@
 ghost use Rattle.std.specs.Prelude.{◌≡◌, [], IfOk, IfErr, MatchResult, OnOk, Result, length};
 ghost use Rattle.nr_trace.specs.Feed.{Ends};
 ghost use Rattle.nr_trace.specs.Feed.Fed.{Taken};
-ghost use Rattle.nr_trace.specs.declared.fault.Format.{Format};
-ghost use Rattle.vs_types.specs.declared.refusal.Fail.{Fail};
+ghost use Rattle.nr_trace.specs.declared.refusals.fault.Format.{Format};
+ghost use Rattle.vs_types.specs.declared.requests.refusal.Fail.{Fail};
 ghost use Rattle.nr_trace.specs.Recording.{Recording};
 ghost use Rattle.nr_explain.specs.Units.{ReadsUnits};
 ghost use Rattle.nr_explain.specs.declared.units.Unread.{Unread};

@@ -3,10 +3,10 @@ use Rattle.std.proofs.Common.{◌≡◌, ℕ, false, List, [], ◌∷◌, Option
 use Rattle.serde_json.specs.Data.{object, put, string}
 use Rattle.serde_json.specs.View.{items_of}
 use Rattle.serde_json.specs.Written.{has_float, items_have_float}
-use Rattle.nr_trace.specs.declared.fault.Fault.{Fault}
-use Rattle.nr_audit.specs.declared.met.Totals.{Totals}
-use Rattle.nr_audit.specs.declared.verdict.Verdict.{Verdict}
-use Rattle.nr_audit.specs.declared.verdict.Verdict.TheVariants.{Yes, No}
+use Rattle.nr_trace.specs.declared.refusals.fault.Fault.{Fault}
+use Rattle.nr_audit.specs.declared.histories.met.Totals.{Totals}
+use Rattle.nr_audit.specs.declared.verdicts.verdict.Verdict.{Verdict}
+use Rattle.nr_audit.specs.declared.verdicts.verdict.Verdict.TheVariants.{Yes, No}
 use Rattle.audit_texts.specs.AuditJson.{FaultNumber, addressed, counted, fault_number_data, fault_numbers}
 use Rattle.audit_texts.specs.AuditJson.{right_members, verdict_members}
 use Rattle.audit_texts.specs.ChainJson.{end_members}

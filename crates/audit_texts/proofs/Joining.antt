@@ -5,7 +5,7 @@ use Rattle.std.proofs.lemmas.Bool.{and_parts, and_from, eqb-true, false≢true}
 use Rattle.std.proofs.lemmas.List.Elements.{All-nil, All-cons}
 use Rattle.vs_types.specs.Codes.{rights_code, size_code}
 use Rattle.vs_types.specs.inside.Telling.{rights_in, size_in}
-use Rattle.vs_types.specs.declared.page.Page.{Page}
+use Rattle.vs_types.specs.declared.addresses.page.Page.{Page}
 use Rattle.vs_types.proofs.OneEntry.{rights_back, size_back}
 use Rattle.vs_types.proofs.Pages.{same_page as equal_page}
 use Rattle.audit_texts.specs.Ranges.{alone, joined, longer, page_after, pages_from, pages_of, ranges_of, same_page, AreParted}

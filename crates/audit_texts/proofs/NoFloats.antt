@@ -2,8 +2,8 @@
 use Rattle.std.proofs.Common.{◌≡◌, ℕ, Bool, false, ◌||◌, ◌++◌, List, [], ◌∷◌, Option, Some, None, ap, ap₂, map, refl}
 use Rattle.serde_json.specs.View.{items_of}
 use Rattle.serde_json.specs.Written.{has_float, items_have_float}
-use Rattle.nr_trace.specs.declared.event.Event.{Event}
-use Rattle.nr_trace.specs.declared.event.Event.TheVariants.{Call, Reply}
+use Rattle.nr_trace.specs.declared.recordings.event.Event.{Event}
+use Rattle.nr_trace.specs.declared.recordings.event.Event.TheVariants.{Call, Reply}
 use Rattle.nr_explain.specs.declared.trace.evidence.RecordedReply.{RecordedReply}
 use Rattle.nr_explain.specs.declared.trace.evidence.MissingTable.{MissingTable}
 use Rattle.nr_explain.specs.declared.trace.evidence.Owner.{Owner}

@@ -3,7 +3,7 @@ use Rattle.std.proofs.Common.{◌≡◌, ℕ, ◌^◌, ◌≤◌, List, [], ◌�
 use Rattle.std.proofs.Common.{if◌then◌else◌}
 use Rattle.std.proofs.lemmas.List.Elements.{All-pop}
 use Rattle.vs_types.specs.Page.{bytes_of, end_of}
-use Rattle.vs_types.specs.declared.page.Page.{Page}
+use Rattle.vs_types.specs.declared.addresses.page.Page.{Page}
 use Rattle.audit_texts.specs.Listing.{range_line, range_lines}
 use Rattle.audit_texts.specs.Ranges.{alone, joined, longer, page_after, range_end, ranges_of}
 use Rattle.audit_texts.specs.declared.pages.range.PageRange.{PageRange}

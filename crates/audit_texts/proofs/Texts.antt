@@ -5,8 +5,8 @@ use Rattle.std.proofs.lemmas.List.Elements.{All-nil, All-cons, All-head, All-tai
 use Rattle.vs_types.specs.Depth.{IsCanonical}
 use Rattle.vs_types.specs.Page.{bytes_of, end_of, level_of, IsPageBelow}
 use Rattle.vs_types.specs.Space.{pages, page_covering, IsSpace, Space}
-use Rattle.vs_types.specs.declared.depth.Depth.{Depth}
-use Rattle.vs_types.specs.declared.page.Page.{Page}
+use Rattle.vs_types.specs.declared.addresses.depth.Depth.{Depth}
+use Rattle.vs_types.specs.declared.addresses.page.Page.{Page}
 use Rattle.vs_types.proofs.Pages.{canonical_fits, ends_before, level_at_most, pow_multiple}
 use Rattle.vs_types.proofs.Alike.{alike_equal}
 use Rattle.vs_types.proofs.Spaces.{holds_listed, look_same}

@@ -2,15 +2,15 @@
 use Rattle.std.specs.Prelude.{ℕ, ◌++◌, List, [], ◌∷◌, codes, decimal, flat_map, fold, map, Option, Some, None}
 use Rattle.serde_json.specs.Data.{Data, Members, array, member, no_members, object, put, string}
 use Rattle.serde_json.specs.View.{items_of}
-use Rattle.vs_types.specs.declared.answer.Answer.{Answer}
+use Rattle.vs_types.specs.declared.requests.answer.Answer.{Answer}
 use Rattle.vs_walk.specs.declared.walk.Walk.TheVariants.{Mapped}
-use Rattle.nr_trace.specs.declared.fault.Format.{Format}
-use Rattle.nr_trace.specs.declared.fault.Format.TheVariants as formats
+use Rattle.nr_trace.specs.declared.refusals.fault.Format.{Format}
+use Rattle.nr_trace.specs.declared.refusals.fault.Format.TheVariants as formats
 use Rattle.nr_explain.specs.declared.trace.evidence.PlacedUpdate.{PlacedUpdate}
 use Rattle.nr_explain.specs.declared.trace.evidence.OtherAnswer.{OtherAnswer}
 use Rattle.nr_explain.specs.declared.trace.evidence.Difference.{Difference}
 use Rattle.nr_trace.specs.FirstFault.{unit_size}
-use Rattle.nr_trace.specs.declared.refusal.TraceUnit.{TraceUnit}
+use Rattle.nr_trace.specs.declared.refusals.refusal.TraceUnit.{TraceUnit}
 use Rattle.nr_audit.specs.Met.{sum_up}
 use Rattle.nr_explain.specs.declared.chain.evidence.Origin.{Origin}
 use Rattle.nr_explain.specs.declared.chain.evidence.Origin.TheVariants.{Nothing, Start, Earlier}

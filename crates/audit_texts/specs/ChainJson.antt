@@ -1,10 +1,10 @@
 -- What `audit --chain --json` prints: a JSON object on a line for each right segment, and one at the end.
 use Rattle.std.specs.Prelude.{ℕ, ◌++◌, List, codes, decimal, Option, None, Some}
 use Rattle.serde_json.specs.Data.{Members, member, no_members, object, put, string}
-use Rattle.nr_trace.specs.declared.fault.Fault.{Fault}
+use Rattle.nr_trace.specs.declared.refusals.fault.Fault.{Fault}
 use Rattle.audit_texts.specs.AuditJson.{fault_members, json_line, right_members}
 use Rattle.audit_texts.specs.EvidenceJson.{number_data}
-use Rattle.nr_audit.specs.declared.met.Totals.{Totals}
+use Rattle.nr_audit.specs.declared.histories.met.Totals.{Totals}
 
 -- the line of JSON of the right segment of this number, whose order has so many calls
 abbrev pub segment_json : ℕ → ℕ → List ℕ

@@ -3,8 +3,8 @@ use Rattle.std.specs.Prelude.{ℕ, ◌+◌, ◌++◌, Bool, true, false, List, [
 use Rattle.audit_texts.specs.ChainJson.{end_json, segment_json}
 use Rattle.audit_texts.specs.Text.{fault_text, line_end, yes_text}
 use Rattle.audit_texts.specs.declared.chain.style.Style.{Style}
-use Rattle.nr_audit.specs.declared.met.Totals.{Totals}
-use Rattle.nr_trace.specs.declared.fault.Fault.{Fault}
+use Rattle.nr_audit.specs.declared.histories.met.Totals.{Totals}
+use Rattle.nr_trace.specs.declared.refusals.fault.Fault.{Fault}
 
 -- the style of a quiet audit: lines, and none of right segments
 abbrev pub quiet_lines : Style

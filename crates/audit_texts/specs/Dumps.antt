@@ -1,7 +1,7 @@
 -- What is printed of the pages of a dump.
 use Rattle.std.specs.Prelude.{◌≡◌, ℕ, Bool, List, None}
 use Rattle.vs_types.specs.Depth.{IsCanonical}
-use Rattle.vs_types.specs.declared.depth.Depth.{Depth}
+use Rattle.vs_types.specs.declared.addresses.depth.Depth.{Depth}
 use Rattle.vs_walk.specs.Dump.{Image, IsDump}
 use Rattle.vs_walk.specs.Traversal.{found_in, walk_fault}
 use Rattle.vs_walk.specs.Walk.{walk}

@@ -1,7 +1,7 @@
 -- What shows a fault, each fact of it, and how much a right trace has; the lines and the JSON object of it.
 use Rattle.std.specs.Prelude.{ℕ, ◌++◌, List, [], ◌∷◌, codes, length, Option}
 use Rattle.serde_json.specs.Data.{Data}
-use Rattle.vs_types.specs.declared.answer.Answer.{Answer}
+use Rattle.vs_types.specs.declared.requests.answer.Answer.{Answer}
 use Rattle.vs_walk.specs.declared.walk.Walk.{Walk}
 use Rattle.nr_trace.specs.FirstFault.{unit_size}
 use Rattle.nr_explain.specs.declared.trace.counts.Counts.{Counts}

@@ -2,8 +2,8 @@
 use Rattle.std.specs.Prelude.{ℕ, List, codes, map, Option, Some, None}
 use Rattle.serde_json.specs.Data.{Data, array, member, no_members, null, number, object, string, unsigned}
 use Rattle.serde_json.specs.View.{items_of}
-use Rattle.nr_trace.specs.declared.event.Event.{Event}
-use Rattle.nr_trace.specs.declared.event.Event.TheVariants.{Call, Reply}
+use Rattle.nr_trace.specs.declared.recordings.event.Event.{Event}
+use Rattle.nr_trace.specs.declared.recordings.event.Event.TheVariants.{Call, Reply}
 use Rattle.nr_explain.specs.declared.chain.evidence.OpenUpdate.{OpenUpdate}
 use Rattle.nr_explain.specs.declared.trace.evidence.RecordedCall.{RecordedCall}
 use Rattle.nr_explain.specs.declared.trace.evidence.RecordedReply.{RecordedReply}

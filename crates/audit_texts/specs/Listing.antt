@@ -1,8 +1,8 @@
 -- What is printed of pages: a line for each, or for each of their ranges. Addresses are in hexadecimal.
 use Rattle.std.specs.Prelude.{ℕ, ◌++◌, Bool, if◌then◌else◌, List, codes, flat_map}
-use Rattle.vs_types.specs.declared.page.Page.{Page}
-use Rattle.vs_types.specs.declared.page.Rights.{Rights}
-use Rattle.vs_types.specs.declared.page.Size.{Size}
+use Rattle.vs_types.specs.declared.addresses.page.Page.{Page}
+use Rattle.vs_types.specs.declared.addresses.page.Rights.{Rights}
+use Rattle.vs_types.specs.declared.addresses.page.Size.{Size}
 use Rattle.vs_text.specs.Words.{hexadecimal, rights_text, size_text, space}
 use Rattle.audit_texts.specs.Ranges.{range_end, ranges_of}
 use Rattle.audit_texts.specs.declared.pages.range.PageRange.{PageRange}

@@ -1,12 +1,12 @@
 -- What is said of a fault, as a list of parts: words, and facts with their names. One walk makes lines of it, another a JSON object.
 use Rattle.std.specs.Prelude.{ℕ, ◌++◌, List, [], codes, decimal, flat_map, fold, Option}
 use Rattle.serde_json.specs.Data.{Data, Members, no_members, null, object, put, string}
-use Rattle.vs_types.specs.declared.answer.Answer.{Answer}
+use Rattle.vs_types.specs.declared.requests.answer.Answer.{Answer}
 use Rattle.vs_text.specs.Words.{hexadecimal}
 use Rattle.vs_walk.specs.declared.walk.Walk.{Walk}
-use Rattle.nr_trace.specs.declared.event.Event.{Event}
-use Rattle.nr_trace.specs.declared.fault.Format.{Format}
-use Rattle.nr_trace.specs.declared.refusal.TraceUnit.{TraceUnit}
+use Rattle.nr_trace.specs.declared.recordings.event.Event.{Event}
+use Rattle.nr_trace.specs.declared.refusals.fault.Format.{Format}
+use Rattle.nr_trace.specs.declared.refusals.refusal.TraceUnit.{TraceUnit}
 use Rattle.nr_explain.specs.declared.trace.evidence.RecordedCall.{RecordedCall}
 use Rattle.nr_explain.specs.declared.trace.evidence.RecordedReply.{RecordedReply}
 use Rattle.nr_explain.specs.declared.trace.evidence.PlacedUpdate.{PlacedUpdate}
@@ -21,10 +21,10 @@ use Rattle.audit_texts.specs.EvidenceText.{read_text, reply_line, reserved_text,
 use Rattle.audit_texts.specs.EvidenceJson.{call_data, changed_data, event_data, number_data, option_data, own_data, reply_data, step_data}
 use Rattle.audit_texts.specs.EvidenceJson.{taken_data, way_data}
 use Rattle.audit_texts.specs.NearbyText.{later_line, memory_data, memory_line, missed_data, missed_lines, open_data, open_lines, right_data, right_text}
-use Rattle.audit_texts.specs.declared.parts.Says.{Says as Spoken}
-use Rattle.audit_texts.specs.declared.parts.Says.TheVariants as spoken
-use Rattle.audit_texts.specs.declared.parts.Part.{Part as Spelled}
-use Rattle.audit_texts.specs.declared.parts.Part.TheVariants.{Words, InLines, InBoth, InJson}
+use Rattle.audit_texts.specs.declared.lines.parts.Says.{Says as Spoken}
+use Rattle.audit_texts.specs.declared.lines.parts.Says.TheVariants as spoken
+use Rattle.audit_texts.specs.declared.lines.parts.Part.{Part as Spelled}
+use Rattle.audit_texts.specs.declared.lines.parts.Part.TheVariants.{Words, InLines, InBoth, InJson}
 
 -- what a fact says
 pub data Says : Type 0 where

@@ -1,14 +1,14 @@
 -- The sentence of a fault: what is wrong, with the numbers that show it.
 use Rattle.std.specs.Prelude.{ℕ, ◌++◌, ◌==◌, List, [], ◌∷◌, length, codes, decimal, Option, Some, None, if◌then◌else◌}
-use Rattle.vs_types.specs.declared.request.Query.TheVariants.{Update}
+use Rattle.vs_types.specs.declared.requests.request.Query.TheVariants.{Update}
 use Rattle.vs_text.specs.Requests.{request_text}
 use Rattle.vs_text.specs.Words.{hexadecimal, space}
-use Rattle.nr_trace.specs.declared.event.Event.{Event}
-use Rattle.nr_trace.specs.declared.event.Event.TheVariants.{Call, Reply}
-use Rattle.nr_trace.specs.declared.event.Asked.{Asked}
-use Rattle.nr_trace.specs.declared.event.Asked.TheVariants as askeds
-use Rattle.nr_trace.specs.declared.fault.Format.{Format}
-use Rattle.nr_trace.specs.declared.fault.Format.TheVariants as formats
+use Rattle.nr_trace.specs.declared.recordings.event.Event.{Event}
+use Rattle.nr_trace.specs.declared.recordings.event.Event.TheVariants.{Call, Reply}
+use Rattle.nr_trace.specs.declared.recordings.event.Asked.{Asked}
+use Rattle.nr_trace.specs.declared.recordings.event.Asked.TheVariants as askeds
+use Rattle.nr_trace.specs.declared.refusals.fault.Format.{Format}
+use Rattle.nr_trace.specs.declared.refusals.fault.Format.TheVariants as formats
 use Rattle.nr_trace.specs.FirstFault.{unit_size}
 use Rattle.nr_explain.specs.declared.units.BadUnit.{BadUnit}
 use Rattle.nr_explain.specs.declared.fields.BadField.{BadField}

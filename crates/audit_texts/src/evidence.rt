@@ -10,12 +10,12 @@ ghost use Rattle.audit_texts.specs.Evidence.{past_end_parts, replica_parts, rese
 ghost use Rattle.audit_texts.specs.Evidence.{stray_reply_parts, two_places_parts, two_replies_parts};
 ghost use Rattle.audit_texts.specs.Parts.{part_of, put_all};
 
+use crate::json::part_json::parts_value;
+use crate::lines::output::Output;
+use crate::lines::part_text::parts_text;
+use crate::lines::parts::{Part, Says};
 use crate::nearby::put_nearby;
-use crate::output::Output;
 use crate::owner::of_owner;
-use crate::part_json::parts_value;
-use crate::part_text::parts_text;
-use crate::parts::{Part, Says};
 use crate::shared::{
     put_answer, put_missing_frame, put_read, put_reserved_entry, put_shared_frame, put_stray_frame,
     put_unlike,

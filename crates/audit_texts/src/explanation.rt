@@ -12,10 +12,10 @@ ghost use Rattle.audit_texts.specs.Explained.{shown_text, told_explanation};
 ghost use Rattle.audit_texts.specs.Usual.{usual_text};
 
 use crate::evidence::{counts_lines, counts_value, evidence_lines, evidence_value};
-use crate::fact_json::{Members, put_text};
-use crate::sentence::sentence_text;
-use crate::text::{no_text, yes_text};
-use crate::usual::{push_sentence, put_usual};
+use crate::json::fact_json::{Members, put_text};
+use crate::wording::sentence::sentence_text;
+use crate::wording::text::{no_text, yes_text};
+use crate::wording::usual::{push_sentence, put_usual};
 use nr_explain::{Counts, Evidence, Explanation};
 use nr_trace::Fault;
 use serde_json::{Map, Value, put};

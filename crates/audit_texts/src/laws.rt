@@ -2,11 +2,11 @@
 
 ghost use Rattle.std.specs.Prelude.{◌≡◌, ◌↔◌, ◌<◌, ℕ, List, Bool, All, IsTrue, flat_map};
 ghost use Rattle.vs_types.specs.Space.{pages, IsSpace, Space};
-ghost use Rattle.vs_types.specs.declared.depth.Depth.{Depth};
-ghost use Rattle.vs_types.specs.declared.page.Page.{Page};
+ghost use Rattle.vs_types.specs.declared.addresses.depth.Depth.{Depth};
+ghost use Rattle.vs_types.specs.declared.addresses.page.Page.{Page};
 ghost use Rattle.vs_walk.specs.Dump.{Image, IsDump};
 ghost use Rattle.vs_walk.specs.Walk.{TranslatesAs};
-ghost use Rattle.nr_trace.specs.declared.fault.Fault.{Fault};
+ghost use Rattle.nr_trace.specs.declared.refusals.fault.Fault.{Fault};
 ghost use Rattle.audit_texts.specs.AuditJson.{named_fault_text};
 ghost use Rattle.audit_texts.specs.Dumps.{dump_text, IsFaultless, TranslateAlike};
 ghost use Rattle.audit_texts.specs.Listing.{pages_text};

@@ -7,9 +7,9 @@ ghost use Rattle.audit_texts.specs.NearbyText.{address_data, address_words, memo
 ghost use Rattle.audit_texts.specs.NearbyText.{stretch_data, stretch_text, stretches_text};
 ghost use Rattle.audit_texts.specs.Parts.{put_all};
 
-use crate::fact_text::address_text;
-use crate::output::Output;
-use crate::parts::{Part, Says};
+use crate::lines::fact_text::address_text;
+use crate::lines::output::Output;
+use crate::lines::parts::{Part, Says};
 use nr_explain::{NamedMemory, RightAfter, Stretch};
 use serde_json::{Map, Value, put};
 use std::alloc::{AllocError, Global};

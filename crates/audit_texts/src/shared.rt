@@ -5,8 +5,8 @@ ghost use Rattle.audit_texts.specs.Evidence.{answer_parts, look_parts, missing_f
 ghost use Rattle.audit_texts.specs.Evidence.{shared_frame_parts, stray_frame_parts, unlike_parts};
 ghost use Rattle.audit_texts.specs.Parts.{part_of, put_all};
 
-use crate::output::Output;
-use crate::parts::{Part, Says};
+use crate::lines::output::Output;
+use crate::lines::parts::{Part, Says};
 use nr_explain::{Difference, OtherAnswer, TableEntry};
 use std::alloc::{AllocError, Global};
 use vs_types::Answer;

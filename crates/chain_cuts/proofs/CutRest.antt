@@ -11,9 +11,9 @@ use Rattle.nr_trace.specs.Calls.{operation_of, IsCall, IsUpdate, IsRead, Respons
 use Rattle.nr_trace.specs.Orders.{before, space_from, answer_in, recorded_order, known_by, floor}
 use Rattle.nr_trace.specs.Faults.{OpensTwice, IsWrongFrom, RestsOnMore, StandsAfter}
 use Rattle.nr_trace.specs.Laws.{HasCleanLog, IsFaultlessFrom}
-use Rattle.nr_trace.specs.declared.fault.Fault.TheVariants.{ThreadOpen, NoSuchCall, AnsweredTwice, NotAnUpdate, PlacedTwice, NotPlaced, PastLog, Early}
-use Rattle.nr_trace.specs.declared.fault.Fault.TheVariants.{WrongAnswer, PrefixPastLog, PrefixShort, MissingFrame, SharedFrame, ReservedBit, StrayFrame}
-use Rattle.nr_trace.specs.declared.fault.Fault.TheVariants.{Differs}
+use Rattle.nr_trace.specs.declared.refusals.fault.Fault.TheVariants.{ThreadOpen, NoSuchCall, AnsweredTwice, NotAnUpdate, PlacedTwice, NotPlaced, PastLog, Early}
+use Rattle.nr_trace.specs.declared.refusals.fault.Fault.TheVariants.{WrongAnswer, PrefixPastLog, PrefixShort, MissingFrame, SharedFrame, ReservedBit, StrayFrame}
+use Rattle.nr_trace.specs.declared.refusals.fault.Fault.TheVariants.{Differs}
 use Rattle.nr_trace.proofs.LawsOfLists.{In, in_filter}
 use Rattle.nr_trace.proofs.LawsOfCalls.{reply_behind_call}
 use Rattle.nr_trace.proofs.LawsOfOrder.{updates_of_order, member_stands}

@@ -7,7 +7,7 @@ use Rattle.nr_trace.specs.Laws.{IsFaultlessFrom}
 use Rattle.nr_trace.specs.Orders.{recorded_order}
 use Rattle.nr_trace.proofs.LawsOfDumps.{clean_if_faultless}
 use Rattle.nr_trace.specs.Versions.{Follows}
-use Rattle.nr_trace.specs.declared.version.Form.TheVariants as forms
+use Rattle.nr_trace.specs.declared.formats.version.Form.TheVariants as forms
 use Rattle.nr_joined.specs.Run.{Run, end_of, IsOrderly}
 use Rattle.nr_joined.proofs.Associated.{joined_associate}
 use Rattle.nr_joined.proofs.Orderly.{clean_is_orderly, orderly_both}

@@ -2,7 +2,7 @@
 use Rattle.std.proofs.Common.{◌≡◌, ℕ, ◌+◌, ◌<◌, ◌⊎◌, inl, inr, length, Option, Some, None, option_and_then, option_map}
 use Rattle.std.proofs.Common.{refl, ap, sym, ◌∙◌, subst, arith}
 use Rattle.vs_types.specs.Space.{Space}
-use Rattle.vs_types.specs.declared.answer.Answer.TheVariants.{Done}
+use Rattle.vs_types.specs.declared.requests.answer.Answer.TheVariants.{Done}
 use Rattle.nr_trace.specs.Recording.{Recording}
 use Rattle.nr_trace.specs.Calls.{Invocation, released_in, released_of, Response, reply_of}
 use Rattle.nr_trace.specs.Laws.{HasCleanLog}

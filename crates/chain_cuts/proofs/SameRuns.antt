@@ -6,9 +6,9 @@ use Rattle.vs_walk.specs.Dump.{Image}
 use Rattle.nr_trace.specs.Recording.{IsThere, Recording}
 use Rattle.nr_trace.specs.Faults.{HasFaultFrom, IsWrongFrom, OpensTwice, RestsOnMore}
 use Rattle.nr_trace.specs.Laws.{IsFaultlessFrom}
-use Rattle.nr_trace.specs.declared.fault.Fault.{Fault}
-use Rattle.nr_trace.specs.declared.fault.Fault.TheVariants.{ThreadOpen, WrongAnswer, PrefixPastLog, PrefixShort, MissingFrame, SharedFrame, ReservedBit}
-use Rattle.nr_trace.specs.declared.fault.Fault.TheVariants.{StrayFrame, Differs}
+use Rattle.nr_trace.specs.declared.refusals.fault.Fault.{Fault}
+use Rattle.nr_trace.specs.declared.refusals.fault.Fault.TheVariants.{ThreadOpen, WrongAnswer, PrefixPastLog, PrefixShort, MissingFrame, SharedFrame, ReservedBit}
+use Rattle.nr_trace.specs.declared.refusals.fault.Fault.TheVariants.{StrayFrame, Differs}
 use Rattle.nr_joined.specs.Run.{Run}
 use Rattle.nr_joined.specs.Joined.{joined_traces}
 use Rattle.nr_touch.specs.Releases.{IsWrongRelease}

@@ -3,7 +3,7 @@ ghost use Rattle.std.specs.Prelude.{◌≡◌, IfOk, map};
 ghost use Rattle.vs_types.specs.Query.{AreScripts};
 ghost use Rattle.nr_trace.specs.Orders.{recorded_order};
 ghost use Rattle.nr_trace.specs.Recording.{Recording};
-ghost use Rattle.nr_audit.specs.declared.verdict.Verdict.TheVariants.{Yes};
+ghost use Rattle.nr_audit.specs.declared.verdicts.verdict.Verdict.TheVariants.{Yes};
 ghost use Rattle.nr_core.specs.Run.{after_steps, IsRecordingOf};
 ghost use Rattle.nr_core.specs.State.{start};
 

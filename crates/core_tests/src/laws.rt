@@ -2,8 +2,8 @@
 
 ghost use Rattle.std.specs.Prelude.{◌≡◌, ℕ, List};
 ghost use Rattle.nr_audit.specs.Verdict.{IsVerdictOf};
-ghost use Rattle.nr_audit.specs.declared.verdict.Verdict.{Verdict};
-ghost use Rattle.nr_audit.specs.declared.verdict.Verdict.TheVariants.{Yes};
+ghost use Rattle.nr_audit.specs.declared.verdicts.verdict.Verdict.{Verdict};
+ghost use Rattle.nr_audit.specs.declared.verdicts.verdict.Verdict.TheVariants.{Yes};
 ghost use Rattle.nr_core.specs.Faultless.{IsRecordingOfSteps};
 ghost use Rattle.nr_trace.specs.Orders.{recorded_order};
 ghost use Rattle.nr_trace.specs.Recording.{Recording};

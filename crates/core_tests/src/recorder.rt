@@ -4,7 +4,7 @@ ghost use Rattle.std.specs.Prelude.{◌≡◌, ◌≤◌, [], ◌∷◌, IfOk};
 ghost use Rattle.vs_types.specs.Query.{IsQuery};
 ghost use Rattle.vs_types.specs.declared.limits.TheConstants.{LOG_PLACES};
 ghost use Rattle.nr_trace.specs.Parts.{HasFrames};
-ghost use Rattle.nr_trace.specs.declared.version.Version.TheVariants.{V1, Segment};
+ghost use Rattle.nr_trace.specs.declared.formats.version.Version.TheVariants.{V1, Segment};
 ghost use Rattle.nr_record.specs.Pen.{AreAllPens, new_pen};
 
 use nr_audit::judge_segment;

@@ -9,10 +9,10 @@ use Rattle.vs_types.specs.Space.{no_pages}
 use Rattle.nr_trace.specs.Recording.{Recording}
 use Rattle.nr_trace.specs.Calls.{Invocation, call_of, Response, reply_of, Answers, IsCall}
 use Rattle.nr_trace.specs.Faults.{Earlier, OpensTwice, IsReplyWith}
-use Rattle.nr_trace.specs.declared.fault.Fault.{Fault}
-use Rattle.nr_trace.specs.declared.fault.Fault.TheVariants.{ThreadOpen, NoSuchCall, AnsweredTwice}
-use Rattle.nr_trace.specs.declared.event.Event.TheVariants.{Reply}
-use Rattle.vs_types.specs.declared.answer.Answer.{Answer}
+use Rattle.nr_trace.specs.declared.refusals.fault.Fault.{Fault}
+use Rattle.nr_trace.specs.declared.refusals.fault.Fault.TheVariants.{ThreadOpen, NoSuchCall, AnsweredTwice}
+use Rattle.nr_trace.specs.declared.recordings.event.Event.TheVariants.{Reply}
+use Rattle.vs_types.specs.declared.requests.answer.Answer.{Answer}
 use Rattle.nr_audit.specs.inside.Search.{HasFaultOn, HasNone, IsFirstAmong}
 use Rattle.nr_audit.specs.inside.Passes.{IsCallFaultAt, IsCallFault}
 use Rattle.nr_audit.specs.inside.Tables.{IsReplyBelow, AreReplies}

@@ -7,12 +7,12 @@ use Rattle.std.proofs.lemmas.List.Elements.{All-get_or}
 use Rattle.nr_trace.specs.Recording.{Recording, IsRecording, IsEvent}
 use Rattle.nr_trace.specs.Calls.{Invocation, made_by, call_of, Response, reply_in, reply_of, Answers}
 use Rattle.nr_trace.specs.Faults.{IsReplyWith}
-use Rattle.nr_trace.specs.declared.event.Event.{Event}
+use Rattle.nr_trace.specs.declared.recordings.event.Event.{Event}
 use Rattle.nr_trace.proofs.LawsOfCalls.{read_event, reply_that_answers}
-use Rattle.nr_trace.specs.declared.event.Event.TheVariants.{Call, Reply}
+use Rattle.nr_trace.specs.declared.recordings.event.Event.TheVariants.{Call, Reply}
 use Rattle.vs_types.specs.Config.{Layout}
-use Rattle.nr_trace.specs.declared.version.Version.{Version}
-use Rattle.vs_types.specs.declared.answer.Answer.{Answer}
+use Rattle.nr_trace.specs.declared.formats.version.Version.{Version}
+use Rattle.vs_types.specs.declared.requests.answer.Answer.{Answer}
 
 -- an event that is no reply
 pub no_reply_unless : (event : Event) → ((call at : ℕ) (answer : Answer) → event ≢ Reply call at answer) → reply_in event ≡ None

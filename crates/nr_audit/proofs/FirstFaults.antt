@@ -8,8 +8,8 @@ use Rattle.std.specs.declared.cmp.Ordering.TheVariants.{Less, Equal, Greater}
 use Rattle.std.proofs.lemmas.Cmp.{nat_list_cmp_total}
 use Rattle.nr_trace.specs.Recording.{Recording}
 use Rattle.nr_trace.specs.Faults.{rank, HasFaultFrom, IsFirstFrom}
-use Rattle.nr_trace.specs.declared.fault.Fault.{Fault}
-use Rattle.nr_trace.specs.declared.fault.Fault.TheVariants.{StartMissing, StartShared, StartReserved, StartStray, StartBeyond, StartDiffers, Stale, Reachable}
+use Rattle.nr_trace.specs.declared.refusals.fault.Fault.{Fault}
+use Rattle.nr_trace.specs.declared.refusals.fault.Fault.TheVariants.{StartMissing, StartShared, StartReserved, StartStray, StartBeyond, StartDiffers, Stale, Reachable}
 use Rattle.nr_trace.proofs.LawsOfFaults.{number_of, one_first}
 use Rattle.nr_joined.specs.Run.{Run}
 use Rattle.nr_audit.specs.Start.{begins_in, space_before}

@@ -8,8 +8,8 @@ use Rattle.nr_trace.specs.Calls.{call_of, IsCall}
 use Rattle.nr_trace.specs.Orders.{floor}
 use Rattle.nr_trace.specs.Faults.{Earlier, StandsAfter}
 use Rattle.nr_trace.specs.Laws.{HasCleanLog}
-use Rattle.nr_trace.specs.declared.fault.Fault.{Fault}
-use Rattle.nr_trace.specs.declared.fault.Fault.TheVariants.{Early}
+use Rattle.nr_trace.specs.declared.refusals.fault.Fault.{Fault}
+use Rattle.nr_trace.specs.declared.refusals.fault.Fault.TheVariants.{Early}
 use Rattle.nr_trace.proofs.LawsOfCalls.{call_within, stands_once, update_is_call, read_is_call}
 use Rattle.vs_types.specs.Finds.{Finds}
 use Rattle.nr_audit.specs.inside.Search.{HasFaultOn, FindsEarly, HasNone, IsFirstAmong}

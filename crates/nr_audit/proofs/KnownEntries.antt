@@ -7,7 +7,7 @@ use Rattle.std.specs.Option.{option_map_or}
 use Rattle.std.proofs.lemmas.Bool.{cases_eq, cases_lt}
 use Rattle.std.proofs.lemmas.Option.{none-some, same_Some}
 use Rattle.nr_trace.specs.Recording.{Recording}
-use Rattle.nr_trace.specs.declared.event.Asked.{Asked}
+use Rattle.nr_trace.specs.declared.recordings.event.Asked.{Asked}
 use Rattle.nr_trace.specs.Calls.{Invocation, call_of, unordered_in, touch_of, Response, reply_in, reply_of}
 use Rattle.nr_trace.specs.Orders.{known_by}
 use Rattle.nr_trace.proofs.LawsOfCalls.{reply_in_event}

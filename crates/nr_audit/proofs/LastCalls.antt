@@ -1,7 +1,7 @@
 -- The rows of the last calls.
 use Rattle.std.proofs.Common.{ℕ, ◌<◌, arith}
-use Rattle.nr_audit.specs.declared.last_calls.LastCalls.{LastCalls}
-use Rattle.nr_audit.specs.declared.last_calls.LastCalls.TheVariants.{Rows, Entries}
+use Rattle.nr_audit.specs.declared.histories.last_calls.LastCalls.{LastCalls}
+use Rattle.nr_audit.specs.declared.histories.last_calls.LastCalls.TheVariants.{Rows, Entries}
 use Rattle.nr_audit.specs.inside.LastCalls.{HasRowFor, HasRows}
 
 pub row_for : (threads thread : ℕ) (last : LastCalls) → HasRows threads last → thread < threads → HasRowFor thread last

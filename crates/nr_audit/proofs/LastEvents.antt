@@ -9,8 +9,8 @@ use Rattle.nr_trace.specs.Recording.{Recording}
 use Rattle.nr_trace.specs.Calls.{made_by, Response, reply_in, IsCall}
 use Rattle.nr_trace.specs.Laws.{HasCleanLog}
 use Rattle.nr_trace.specs.Orders.{recorded_order}
-use Rattle.nr_trace.specs.declared.event.Event.{Event}
-use Rattle.nr_trace.specs.declared.event.Event.TheVariants.{Reply}
+use Rattle.nr_trace.specs.declared.recordings.event.Event.{Event}
+use Rattle.nr_trace.specs.declared.recordings.event.Event.TheVariants.{Reply}
 use Rattle.nr_trace.proofs.LawsOfCalls.{update_is_call, read_is_call, reply_that_answers}
 use Rattle.nr_trace.proofs.LawsOfLists.{in_from_Contains}
 use Rattle.nr_trace.proofs.LawsOfOrder.{member_stands}

@@ -9,8 +9,8 @@ use Rattle.vs_types.specs.Space.{no_pages}
 use Rattle.nr_trace.specs.Recording.{Recording}
 use Rattle.nr_trace.specs.Calls.{Invocation, made_by, request_in, operation_in, IsUpdate}
 use Rattle.nr_trace.specs.Faults.{Earlier, HasPlaced}
-use Rattle.nr_trace.specs.declared.fault.Fault.{Fault}
-use Rattle.nr_trace.specs.declared.fault.Fault.TheVariants.{NotAnUpdate, PlacedTwice}
+use Rattle.nr_trace.specs.declared.refusals.fault.Fault.{Fault}
+use Rattle.nr_trace.specs.declared.refusals.fault.Fault.TheVariants.{NotAnUpdate, PlacedTwice}
 use Rattle.nr_audit.specs.inside.Search.{HasFaultOn, HasNone, IsFirstAmong}
 use Rattle.nr_audit.specs.inside.Passes.{IsLogFaultAt, IsLogFault}
 use Rattle.nr_audit.specs.inside.Tables.{IsPlaceBelow, ArePlaces}

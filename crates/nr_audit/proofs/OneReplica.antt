@@ -7,9 +7,9 @@ use Rattle.vs_types.specs.Space.{Space}
 use Rattle.nr_trace.specs.Recording.{IsEvent, IsRecording, Recording}
 use Rattle.nr_trace.specs.Calls.{Invocation, made_by, call_of, Answers}
 use Rattle.nr_trace.specs.Laws.{HasCleanLog}
-use Rattle.nr_trace.specs.declared.event.Event.{Event}
-use Rattle.nr_trace.specs.declared.event.Event.TheVariants as events
-use Rattle.nr_trace.specs.declared.version.Version.{Version}
+use Rattle.nr_trace.specs.declared.recordings.event.Event.{Event}
+use Rattle.nr_trace.specs.declared.recordings.event.Event.TheVariants as events
+use Rattle.nr_trace.specs.declared.formats.version.Version.{Version}
 use Rattle.nr_trace.proofs.LawsOfCalls.{answered_stands, placed_is_update, reply_behind_call, reply_is_first, reply_that_answers, stands_once, the_some}
 use Rattle.nr_trace.proofs.LawsOfPrecedence.{known_of_update}
 use Rattle.nr_joined.specs.Joined.{joined_traces}

@@ -13,7 +13,7 @@ use Rattle.nr_touch.specs.Replies.{AreReplies}
 use Rattle.nr_touch.proofs.Overs.{any_below, count_more, count_same, not_below, one_test, over_is}
 use Rattle.nr_audit.specs.Meetings.{is_asked, is_open_at, meets, overlaps}
 use Rattle.nr_audit.specs.inside.Meetings.{Asks, HasMet, IsCountedTo, IsReachOf}
-use Rattle.nr_audit.specs.declared.meetings.Latest.{Latest}
+use Rattle.nr_audit.specs.declared.histories.meetings.Latest.{Latest}
 
 -- ---- calls that are open
 

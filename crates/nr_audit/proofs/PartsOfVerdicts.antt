@@ -2,7 +2,7 @@
 use Rattle.std.proofs.Common.{◌≡◌, ℕ, IfOk, IfErr, List, None, Result, Ok, Err, refl, sym, ap, subst, ◌∙◌}
 use Rattle.vs_types.specs.Space.{Space, no_pages}
 use Rattle.vs_types.specs.Refusal.{IfRefused}
-use Rattle.vs_types.specs.declared.refusal.Fail.{Fail}
+use Rattle.vs_types.specs.declared.requests.refusal.Fail.{Fail}
 use Rattle.nr_trace.specs.Feed.{Reads}
 use Rattle.nr_trace.specs.Recording.{Recording}
 use Rattle.nr_trace.specs.Spelling.{Spells}
@@ -11,17 +11,17 @@ use Rattle.nr_trace.specs.FirstFault.{HasFormatFault}
 use Rattle.nr_trace.specs.Orders.{recorded_order, HasItsCalls, KeepsPrecedence, HasTheAnswers, IsLegalFrom}
 use Rattle.nr_trace.specs.Faults.{IsFirst, IsFirstOf}
 use Rattle.nr_trace.specs.Laws.{IsFaultless, IsFaultlessFrom}
-use Rattle.nr_trace.specs.declared.fault.Fault.{Fault}
-use Rattle.nr_trace.specs.declared.fault.Fault.TheVariants.{Format}
-use Rattle.nr_trace.specs.declared.fault.Format.{Format as FormatFault}
+use Rattle.nr_trace.specs.declared.refusals.fault.Fault.{Fault}
+use Rattle.nr_trace.specs.declared.refusals.fault.Fault.TheVariants.{Format}
+use Rattle.nr_trace.specs.declared.refusals.fault.Format.{Format as FormatFault}
 use Rattle.nr_trace.proofs.LawsOfSpelling.{one_trace}
 use Rattle.nr_trace.proofs.LawsOfFaults.{none_of_faultless, one_first_of}
 use Rattle.nr_trace.proofs.LawsOfHistories.{history_if_faultless}
 use Rattle.nr_trace.proofs.LawsOfDumps.{dump_is_there, legal_if_faultless, fits_if_faultless}
 use Rattle.nr_audit.specs.Verdict.{IsTrace, IsVerdictOn, IsVerdictOf, IfYes}
 use Rattle.nr_audit.specs.Headline.{SpellsAlone, HasDumpsFrom, HasFittingDumps, IsSpelledWith, AreRightWith}
-use Rattle.nr_audit.specs.declared.verdict.Verdict.{Verdict}
-use Rattle.nr_audit.specs.declared.verdict.Verdict.TheVariants.{Yes, No}
+use Rattle.nr_audit.specs.declared.verdicts.verdict.Verdict.{Verdict}
+use Rattle.nr_audit.specs.declared.verdicts.verdict.Verdict.TheVariants.{Yes, No}
 use Rattle.nr_audit.proofs.FirstFaults.{one_first_after}
 use Rattle.nr_audit.proofs.Traces.{faultless_trace, first_of_trace}
 

@@ -4,7 +4,7 @@ use Rattle.std.proofs.lemmas.List.{append-nil}
 use Rattle.std.proofs.lemmas.Option.{slice_get_within}
 use Rattle.vs_types.specs.Config.{Layout}
 use Rattle.vs_types.specs.Space.{IsSpace, Space}
-use Rattle.vs_types.specs.declared.op.Action.TheVariants.{Protect}
+use Rattle.vs_types.specs.declared.requests.op.Action.TheVariants.{Protect}
 use Rattle.vs_plain.specs.Plain.{BoundedSpace}
 use Rattle.vs_types.proofs.Lists.{not_in_nil}
 use Rattle.nr_trace.specs.Recording.{IsRecording, Recording}
@@ -20,7 +20,7 @@ use Rattle.nr_touch.proofs.cuts.Tails.{index_of_tail, nothing_left, tail_with}
 use Rattle.nr_audit.specs.Segments.{pages_before, run_after, FitsLayout, FitsPast, IsBehind, IsKept}
 use Rattle.nr_audit.specs.Start.{begins_in, first_space, space_before, BeginsRight}
 use Rattle.nr_audit.specs.Verdict.{space_of}
-use Rattle.nr_audit.specs.declared.past.Past.{Past}
+use Rattle.nr_audit.specs.declared.histories.past.Past.{Past}
 use Rattle.nr_audit.specs.inside.Begun.{is_protect, ArePlacesPlain, IsQuiet}
 
 tail_behind : (run : Option Run) (past : Option Past) (segment : Recording) (tail : Tail) → IsBehind run past segment

@@ -6,10 +6,10 @@ use Rattle.vs_types.specs.Space.{no_pages}
 use Rattle.nr_trace.specs.Recording.{Recording}
 use Rattle.nr_trace.specs.Calls.{IsUpdate, IsRead, Response, reply_of}
 use Rattle.nr_trace.specs.Faults.{Earlier, IsReplyWith}
-use Rattle.nr_trace.specs.declared.fault.Fault.{Fault}
-use Rattle.nr_trace.specs.declared.fault.Fault.TheVariants.{NotPlaced, PastLog}
-use Rattle.nr_trace.specs.declared.event.Event.TheVariants.{Reply}
-use Rattle.vs_types.specs.declared.answer.Answer.{Answer}
+use Rattle.nr_trace.specs.declared.refusals.fault.Fault.{Fault}
+use Rattle.nr_trace.specs.declared.refusals.fault.Fault.TheVariants.{NotPlaced, PastLog}
+use Rattle.nr_trace.specs.declared.recordings.event.Event.TheVariants.{Reply}
+use Rattle.vs_types.specs.declared.requests.answer.Answer.{Answer}
 use Rattle.nr_audit.specs.inside.Search.{HasFaultOn, HasNone, IsFirstAmong}
 use Rattle.nr_audit.specs.inside.Passes.{IsPositionFaultAt, IsPositionFault}
 use Rattle.nr_audit.proofs.Ranks.{IsRanked, none_of_all, first_of_all, lower_number}

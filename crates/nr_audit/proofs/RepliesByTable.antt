@@ -6,7 +6,7 @@ use Rattle.std.specs.List.{cons_option}
 use Rattle.std.proofs.lemmas.Option.{slice_get_within}
 use Rattle.nr_trace.specs.Recording.{Recording}
 use Rattle.nr_trace.specs.Calls.{Response, reply_in, reply_of, reply_to}
-use Rattle.nr_trace.specs.declared.event.Event.{Event}
+use Rattle.nr_trace.specs.declared.recordings.event.Event.{Event}
 use Rattle.std.proofs.lemmas.Bool.{eq-eqb, cond-true, false≢true}
 use Rattle.std.specs.Prelude.{option_map}
 use Rattle.nr_trace.specs.Calls.{Invocation, request_in, read_address, address_of, call_of, IsRead, IsUpdate}

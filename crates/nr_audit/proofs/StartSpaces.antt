@@ -10,8 +10,8 @@ use Rattle.std.proofs.lemmas.List.{get_or_default}
 use Rattle.vs_types.specs.Frame.{IsFrame}
 use Rattle.vs_types.specs.Page.{bytes_of, IsPage}
 use Rattle.vs_types.specs.Space.{Space, IsSpace}
-use Rattle.vs_types.specs.declared.depth.Depth.{Depth}
-use Rattle.vs_types.specs.declared.page.TheConstants.Page.{PHYS_END}
+use Rattle.vs_types.specs.declared.addresses.depth.Depth.{Depth}
+use Rattle.vs_types.specs.declared.addresses.page.TheConstants.Page.{PHYS_END}
 use Rattle.vs_types.proofs.Spaces.{found_value}
 use Rattle.vs_walk.specs.Dump.{Image}
 use Rattle.vs_walk.specs.Memory.{AreWhole}
@@ -32,8 +32,8 @@ use Rattle.nr_touch.proofs.cuts.Behind.{right_rest}
 use Rattle.nr_audit.specs.Start.{begins_in, space_before, space_of_pages, start_space, BeginsRight, HasPageBeyond, HasStartFault}
 use Rattle.nr_audit.specs.Faults.{HasNoFaultAfter, IsSoundAfter}
 use Rattle.nr_audit.specs.Releases.{HasRightReleases, HasSettledReleases}
-use Rattle.nr_trace.specs.declared.fault.Fault.{Fault}
-use Rattle.nr_trace.specs.declared.fault.Fault.TheVariants.{StartMissing, StartShared, StartReserved, StartStray, StartBeyond, StartDiffers}
+use Rattle.nr_trace.specs.declared.refusals.fault.Fault.{Fault}
+use Rattle.nr_trace.specs.declared.refusals.fault.Fault.TheVariants.{StartMissing, StartShared, StartReserved, StartStray, StartBeyond, StartDiffers}
 use Rattle.nr_audit.specs.inside.Begun.{HasNoStartFault}
 use Rattle.nr_audit.proofs.FilledSpaces.{of_own_pages}
 use Rattle.nr_audit.proofs.Judgements.{begins_of, faultless_of, releases_of, sound_by}

@@ -5,8 +5,8 @@ use Rattle.vs_walk.specs.Dump.{Image}
 use Rattle.nr_dump.specs.Faults.{IsFirstOfDump, HasNoFault}
 use Rattle.nr_dump.specs.declared.fault.DumpFault.{DumpFault}
 use Rattle.nr_dump.specs.declared.fault.DumpFault.TheVariants as dumps
-use Rattle.nr_trace.specs.declared.fault.Fault.{Fault}
-use Rattle.nr_trace.specs.declared.fault.Fault.TheVariants.{MissingFrame, SharedFrame, ReservedBit, StrayFrame, Differs}
+use Rattle.nr_trace.specs.declared.refusals.fault.Fault.{Fault}
+use Rattle.nr_trace.specs.declared.refusals.fault.Fault.TheVariants.{MissingFrame, SharedFrame, ReservedBit, StrayFrame, Differs}
 
 -- the fault of a dump, with its replica
 abbrev pub at_replica : ℕ → DumpFault → Fault

@@ -14,8 +14,8 @@ use Rattle.nr_touch.specs.declared.touches.excuse.Excuse.TheVariants as excuses
 use Rattle.nr_touch.specs.declared.touches.touch.Touch.{Touch}
 use Rattle.nr_audit.specs.Meetings.{overlapping}
 use Rattle.nr_audit.specs.Touches.{HasTouch}
-use Rattle.nr_audit.specs.declared.met.Met.{Met}
-use Rattle.nr_audit.specs.declared.met.Totals.{Totals}
+use Rattle.nr_audit.specs.declared.histories.met.Met.{Met}
+use Rattle.nr_audit.specs.declared.histories.met.Totals.{Totals}
 
 -- all answered touches of a segment, by the events at which they are made
 pub record AreTouchesOf (segment : Recording) (touches : List Touch) : Type 0 where

@@ -1,8 +1,8 @@
 -- The releases of a segment, and which are wrong.
 use Rattle.std.specs.Prelude.{◌≡◌, ◌↔◌, ℕ, Option, Some, IsTrue}
 use Rattle.vs_types.specs.Space.{Space, page_at}
-use Rattle.vs_types.specs.declared.answer.Answer.TheVariants.{Done}
-use Rattle.vs_types.specs.declared.page.Page.{Page}
+use Rattle.vs_types.specs.declared.requests.answer.Answer.TheVariants.{Done}
+use Rattle.vs_types.specs.declared.addresses.page.Page.{Page}
 use Rattle.nr_trace.specs.Recording.{Recording}
 use Rattle.nr_trace.specs.Calls.{released_of, Response, reply_of}
 use Rattle.nr_joined.specs.Run.{Run, end_of}

@@ -12,7 +12,7 @@ use Rattle.nr_touch.specs.Tails.{IsSoundTail, IsTailOfRun}
 use Rattle.nr_audit.specs.Start.{begins_in}
 use Rattle.nr_audit.specs.Releases.{HasRightReleases}
 use Rattle.nr_audit.specs.Touches.{HasRightTouches}
-use Rattle.nr_audit.specs.declared.past.Past.{Past}
+use Rattle.nr_audit.specs.declared.histories.past.Past.{Past}
 
 -- the run with a segment more, which begins in the space after it
 abbrev pub run_after : Option Run → Recording → Run

@@ -1,10 +1,10 @@
 -- What an update or a read does to a plain space, and how it is answered.
 use Rattle.std.specs.Prelude.{◌≡◌}
 use Rattle.vs_types.specs.Step.{step, look, allow}
-use Rattle.vs_types.specs.declared.answer.Answer.{Answer}
-use Rattle.vs_types.specs.declared.answer.Answer.TheVariants.{Done}
-use Rattle.vs_types.specs.declared.request.Query.{Query}
-use Rattle.vs_types.specs.declared.request.Query.TheVariants.{Update, Resolve, Access}
+use Rattle.vs_types.specs.declared.requests.answer.Answer.{Answer}
+use Rattle.vs_types.specs.declared.requests.answer.Answer.TheVariants.{Done}
+use Rattle.vs_types.specs.declared.requests.request.Query.{Query}
+use Rattle.vs_types.specs.declared.requests.request.Query.TheVariants.{Update, Resolve, Access}
 use Rattle.vs_plain.specs.Plain.{BoundedSpace, IsPlainStep}
 
 -- an update does its operation; a read is answered and changes nothing

@@ -5,14 +5,14 @@ use Rattle.vs_types.specs.Space.{Space}
 use Rattle.vs_plain.specs.Plain.{BoundedSpace}
 use Rattle.nr_trace.specs.Recording.{Recording, IsRecording}
 use Rattle.nr_trace.specs.Versions.{IsVersionOf}
-use Rattle.nr_trace.specs.declared.version.Form.TheVariants as forms
+use Rattle.nr_trace.specs.declared.formats.version.Form.TheVariants as forms
 use Rattle.nr_trace.specs.Spelling.{Spells}
 use Rattle.nr_trace.specs.Faults.{IsFirstOf}
 use Rattle.nr_trace.specs.Laws.{IsFaultless}
 use Rattle.nr_trace.specs.Orders.{recorded_order}
 use Rattle.nr_audit.specs.Faults.{IsFirstAfter, IsSoundAfter}
-use Rattle.nr_audit.specs.declared.verdict.Verdict.{Verdict}
-use Rattle.nr_audit.specs.declared.verdict.Verdict.TheVariants.{Yes, No}
+use Rattle.nr_audit.specs.declared.verdicts.verdict.Verdict.{Verdict}
+use Rattle.nr_audit.specs.declared.verdicts.verdict.Verdict.TheVariants.{Yes, No}
 
 -- a space with the depth and the limit of a layout
 abbrev pub space_of : Layout → Space → BoundedSpace

@@ -7,7 +7,7 @@ ghost use Rattle.vs_walk.specs.Walk.{TranslatesAs};
 ghost use Rattle.nr_trace.specs.Recording.{Recording, IsRecording};
 ghost use Rattle.nr_trace.specs.Faults.{IsFirst};
 ghost use Rattle.nr_trace.specs.Laws.{HasCleanLog, IsFaultless};
-ghost use Rattle.nr_trace.specs.declared.fault.Fault.{Fault};
+ghost use Rattle.nr_trace.specs.declared.refusals.fault.Fault.{Fault};
 ghost use Rattle.nr_audit.specs.Faults.{HasNoFaultAfter, IsFirstAfter, IsSoundAfter};
 ghost use Rattle.nr_joined.specs.Joined.{joined_traces};
 ghost use Rattle.nr_joined.specs.Run.{Run, end_of, IsOrderly};
@@ -18,8 +18,8 @@ ghost use Rattle.nr_audit.specs.Releases.{HasSettledReleases};
 ghost use Rattle.nr_audit.specs.Start.{begins_in, space_before, start_space};
 ghost use Rattle.nr_audit.specs.Headline.{AreRightWith};
 ghost use Rattle.nr_audit.specs.Verdict.{IsTrace, IsVerdictOf, IsVerdictOn};
-ghost use Rattle.nr_audit.specs.declared.verdict.Verdict.{Verdict};
-ghost use Rattle.nr_audit.specs.declared.verdict.Verdict.TheVariants.{Yes};
+ghost use Rattle.nr_audit.specs.declared.verdicts.verdict.Verdict.{Verdict};
+ghost use Rattle.nr_audit.specs.declared.verdicts.verdict.Verdict.TheVariants.{Yes};
 
 /// The headline: where the verdict on bytes is yes, they are right with its order.
 pub fn yes_means_right()

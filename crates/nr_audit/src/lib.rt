@@ -6,40 +6,19 @@
 //! order, they look at the answers; then at the touches and releases of a segment, and then at the dumps.
 #![tactic(auto)]
 
-mod answers;
-mod calls;
-mod dumps;
+mod checks;
 pub mod examples;
-mod floors;
-mod forms;
-mod history;
-mod judging;
-mod last_calls;
-mod last_events;
+mod histories;
 pub mod laws;
-mod log;
-mod meetings;
-mod met;
-mod needs;
-mod order;
-mod past;
-mod positions;
-mod reads;
-mod releases;
-mod requests;
-mod search;
-mod start;
-mod tables;
-mod touches;
-mod verdict;
+mod verdicts;
 
-pub use answers::serve;
-pub use dumps::{fault_at, table_fault};
-pub use forms::is_trace;
-pub use judging::{audit, judge, judge_read, judge_segment};
-pub use meetings::overlapping;
-pub use met::{Met, Totals};
-pub use past::Past;
-pub use requests::request_of;
-pub use start::{begin, copy};
-pub use verdict::{Order, Verdict};
+pub use checks::answers::serve;
+pub use checks::dumps::{fault_at, table_fault};
+pub use checks::requests::request_of;
+pub use histories::meetings::overlapping;
+pub use histories::met::{Met, Totals};
+pub use histories::past::Past;
+pub use verdicts::forms::is_trace;
+pub use verdicts::judging::{audit, judge, judge_read, judge_segment};
+pub use verdicts::start::{begin, copy};
+pub use verdicts::verdict::{Order, Verdict};

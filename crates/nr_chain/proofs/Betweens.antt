@@ -5,10 +5,10 @@ use Rattle.vs_types.specs.Config.{Layout}
 use Rattle.nr_trace.specs.FirstFault.{HasFaultAs}
 use Rattle.nr_trace.specs.Feed.{FedSegment, IsWhole}
 use Rattle.nr_trace.specs.Feed.Fed.{Taken}
-use Rattle.nr_trace.specs.declared.fault.Fault.TheVariants.{Format}
-use Rattle.nr_trace.specs.declared.fault.Format.TheVariants.{Truncated}
-use Rattle.nr_trace.specs.declared.version.Form.TheVariants as forms
-use Rattle.nr_trace.specs.declared.fault.Fault.{Fault}
+use Rattle.nr_trace.specs.declared.refusals.fault.Fault.TheVariants.{Format}
+use Rattle.nr_trace.specs.declared.refusals.fault.Format.TheVariants.{Truncated}
+use Rattle.nr_trace.specs.declared.formats.version.Form.TheVariants as forms
+use Rattle.nr_trace.specs.declared.refusals.fault.Fault.{Fault}
 use Rattle.nr_chain.specs.Bytes.{layout_before, EndsWith}
 use Rattle.nr_joined.specs.Run.{Run}
 use Rattle.nr_audit.specs.Segments.{FitsLayout}

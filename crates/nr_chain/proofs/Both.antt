@@ -8,7 +8,7 @@ use Rattle.vs_types.specs.Space.{Space}
 use Rattle.vs_walk.specs.Walk.{TranslatesAs}
 use Rattle.vs_walk.specs.Dump.{Image}
 use Rattle.nr_trace.specs.Recording.{IsThere, Recording}
-use Rattle.vs_types.specs.declared.request.Query.{Query}
+use Rattle.vs_types.specs.declared.requests.request.Query.{Query}
 use Rattle.nr_trace.specs.Calls.{Invocation, call_of, request_of, operation_of, IsOrdered, IsUpdate, IsRead, Response, reply_to, IsAnswered, Precedes}
 use Rattle.nr_trace.specs.Orders.{before, updates, space_from, answer_in, HasItsCalls, KeepsPrecedence, HasAnswersFrom, FitsFrom}
 use Rattle.nr_trace.proofs.LawsOfLists.{In, Contains-from_in, in_from_Contains, in_left, in_right}

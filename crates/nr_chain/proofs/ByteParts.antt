@@ -6,7 +6,7 @@ use Rattle.std.proofs.lemmas.Option.{same_Some}
 use Rattle.vs_types.specs.Config.{Layout}
 use Rattle.vs_types.specs.Space.{Space}
 use Rattle.vs_types.specs.Step.{allow_in_page}
-use Rattle.vs_types.specs.declared.page.Page.{Page}
+use Rattle.vs_types.specs.declared.addresses.page.Page.{Page}
 use Rattle.nr_trace.specs.Recording.{Recording}
 use Rattle.nr_trace.specs.Orders.{space_from}
 use Rattle.nr_trace.specs.Laws.{IsFaultlessFrom}
@@ -30,7 +30,7 @@ use Rattle.nr_audit.specs.Start.{BeginsRight}
 use Rattle.nr_audit.proofs.Judgements.{begins_of, clean_of, faultless_of, releases_of, sound_by}
 use Rattle.nr_audit.proofs.ReleasesBehind.{found_in_time, settled_reach}
 use Rattle.nr_trace.specs.Versions.{Follows}
-use Rattle.nr_trace.specs.declared.version.Form.TheVariants as forms
+use Rattle.nr_trace.specs.declared.formats.version.Form.TheVariants as forms
 use Rattle.nr_chain.specs.Bytes.{layout_before, BeginsWith, EndsWith, GoesOnSo, SpellAll}
 use Rattle.nr_chain.specs.Parts.{run_behind, ComesTo, HaveReleases, MayFollow, SpellUpTo}
 use Rattle.nr_chain.proofs.OneChain.{begins_some, one_front}

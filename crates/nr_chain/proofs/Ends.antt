@@ -1,10 +1,10 @@
 -- How a chain ends at some bytes.
 use Rattle.std.proofs.Common.{◌≡◌, ℕ, List, [], Option, Some, None, is_some, true, false, refl, sym, subst, lit<, inl}
 use Rattle.nr_trace.specs.FirstFault.{HasFaultAs}
-use Rattle.nr_trace.specs.declared.fault.Format.TheVariants.{Truncated}
-use Rattle.nr_trace.specs.declared.refusal.TraceUnit.TheVariants as units
-use Rattle.nr_trace.specs.declared.version.Form.{Form}
-use Rattle.nr_trace.specs.declared.fault.Fault.{Fault}
+use Rattle.nr_trace.specs.declared.refusals.fault.Format.TheVariants.{Truncated}
+use Rattle.nr_trace.specs.declared.refusals.refusal.TraceUnit.TheVariants as units
+use Rattle.nr_trace.specs.declared.formats.version.Form.{Form}
+use Rattle.nr_trace.specs.declared.refusals.fault.Fault.{Fault}
 use Rattle.nr_joined.specs.Run.{Run}
 use Rattle.nr_chain.specs.Bytes.{EndsWith, IsFirstNext}
 

@@ -2,7 +2,7 @@
 use Rattle.std.proofs.Common.{ℕ, zero, suc, ◌<◌, refl, arith}
 use Rattle.nr_trace.specs.Calls.{Answers, IsWellFormedHistory}
 use Rattle.nr_trace.specs.Examples.{map_it, resolve_it}
-use Rattle.nr_trace.specs.declared.event.Asked.TheVariants.{Request}
+use Rattle.nr_trace.specs.declared.recordings.event.Asked.TheVariants.{Request}
 use Rattle.nr_chain.specs.Examples.{maps_without_a_reply, resolves_it}
 use Rattle.nr_chain.specs.Joined.{both}
 

@@ -3,15 +3,15 @@ use Rattle.std.proofs.Common.{◌≡◌, ◌<◌, ◌≤◌, ℕ, Bool, List, �
 use Rattle.std.specs.Prelude.{IfOk}
 use Rattle.std.proofs.lemmas.List.{take-append-drop}
 use Rattle.vs_types.specs.Config.{Layout}
-use Rattle.vs_types.specs.declared.refusal.Fail.{Fail}
-use Rattle.vs_types.specs.declared.refusal.Fail.TheVariants.{Memory, Refused}
+use Rattle.vs_types.specs.declared.requests.refusal.Fail.{Fail}
+use Rattle.vs_types.specs.declared.requests.refusal.Fail.TheVariants.{Memory, Refused}
 use Rattle.nr_trace.specs.Spelling.{SpellsSegment}
 use Rattle.nr_trace.specs.FirstFault.{HasSegmentFault}
 use Rattle.nr_trace.specs.Feed.{FedSegment, FeedsSegment, IsWhole}
-use Rattle.nr_trace.specs.declared.fault.Format.{Format}
-use Rattle.nr_trace.specs.declared.fault.Format.TheVariants.{Truncated}
-use Rattle.nr_trace.specs.declared.fault.Fault.TheVariants as faults
-use Rattle.nr_trace.specs.declared.fault.Fault.{Fault}
+use Rattle.nr_trace.specs.declared.refusals.fault.Format.{Format}
+use Rattle.nr_trace.specs.declared.refusals.fault.Format.TheVariants.{Truncated}
+use Rattle.nr_trace.specs.declared.refusals.fault.Fault.TheVariants as faults
+use Rattle.nr_trace.specs.declared.refusals.fault.Fault.{Fault}
 use Rattle.nr_joined.specs.Run.{Run}
 use Rattle.nr_chain.specs.Fed.{ChainFed, IsKeptOf}
 use Rattle.nr_chain.specs.Bytes.{layout_before, HasFirstNext, IsFirstNext}

@@ -4,15 +4,15 @@ use Rattle.std.proofs.Math.Seq.{take-length}
 use Rattle.std.proofs.lemmas.List.{append-nil}
 use Rattle.std.proofs.lemmas.Bool.{cases_lt}
 use Rattle.vs_types.specs.Config.{Layout}
-use Rattle.vs_types.specs.declared.refusal.Fail.TheVariants.{Refused}
+use Rattle.vs_types.specs.declared.requests.refusal.Fail.TheVariants.{Refused}
 use Rattle.nr_trace.specs.Recording.{Recording}
 use Rattle.nr_trace.specs.Spelling.{SpellsSegment}
 use Rattle.nr_trace.specs.FirstFault.{HasFaultAs}
 use Rattle.nr_trace.specs.Feed.{EndsSegment, Fed, FedSegment, FeedsSegment, IsFaultlessYet, IsWhole, LastsAs}
 use Rattle.nr_trace.specs.Feed.Fed.{Taken, Stopped}
-use Rattle.nr_trace.specs.declared.fault.Format.{Format}
-use Rattle.nr_trace.specs.declared.fault.Format.TheVariants.{Truncated}
-use Rattle.nr_trace.specs.declared.version.Form.TheVariants as forms
+use Rattle.nr_trace.specs.declared.refusals.fault.Format.{Format}
+use Rattle.nr_trace.specs.declared.refusals.fault.Format.TheVariants.{Truncated}
+use Rattle.nr_trace.specs.declared.formats.version.Form.TheVariants as forms
 use Rattle.nr_chain.specs.inside.Between.{bytes_in}
 
 -- so many bytes of the piece are taken

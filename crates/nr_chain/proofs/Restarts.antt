@@ -2,7 +2,7 @@
 use Rattle.std.proofs.Common.{◌≡◌, Option, Some, None, refl, sym, ◌∙◌, subst}
 use Rattle.vs_types.proofs.Spaces.{no_pages_space}
 use Rattle.vs_types.specs.Space.{Space, IsSpace}
-use Rattle.vs_types.specs.declared.depth.Depth.{Depth}
+use Rattle.vs_types.specs.declared.addresses.depth.Depth.{Depth}
 use Rattle.vs_walk.specs.Dump.{Image}
 use Rattle.nr_trace.specs.Recording.{IsRecording, Recording}
 use Rattle.nr_trace.specs.Laws.{IsFaultlessFrom}

@@ -2,25 +2,25 @@
 use Rattle.std.proofs.Common.{◌≡◌, ℕ, List, [], Option, Some, None, option_map, Err, refl, sym, ap, ◌∙◌, subst}
 use Rattle.std.specs.Prelude.{IfSome}
 use Rattle.vs_types.specs.Config.{Layout}
-use Rattle.vs_types.specs.declared.refusal.Fail.{Fail}
+use Rattle.vs_types.specs.declared.requests.refusal.Fail.{Fail}
 use Rattle.nr_trace.specs.Recording.{Recording}
 use Rattle.nr_trace.specs.Orders.{recorded_order}
 use Rattle.nr_trace.specs.Spelling.{SpellsSegment}
 use Rattle.nr_trace.specs.Feed.{EndsSegment, Fed, FedSegment, IsWhole}
 use Rattle.nr_trace.specs.Feed.Fed.{Taken, Stopped}
 use Rattle.nr_trace.specs.Versions.{Follows}
-use Rattle.nr_trace.specs.declared.fault.Format.{Format}
-use Rattle.nr_trace.specs.declared.fault.Format.TheVariants.{Truncated}
-use Rattle.nr_trace.specs.declared.version.Form.TheVariants as forms
+use Rattle.nr_trace.specs.declared.refusals.fault.Format.{Format}
+use Rattle.nr_trace.specs.declared.refusals.fault.Format.TheVariants.{Truncated}
+use Rattle.nr_trace.specs.declared.formats.version.Form.TheVariants as forms
 use Rattle.nr_trace.proofs.LawsOfFormat.{no_fault}
 use Rattle.nr_audit.specs.Faults.{IsFirstAfter, IsSoundAfter}
 use Rattle.nr_joined.specs.Run.{Run}
 use Rattle.nr_audit.specs.Segments.{run_after, FitsPast, IsBehind, IsKept}
 use Rattle.nr_audit.specs.Met.{HasMet}
 use Rattle.nr_audit.specs.Start.{begins_in}
-use Rattle.nr_audit.specs.declared.met.Met.{Met}
-use Rattle.nr_audit.specs.declared.past.Past.{Past}
-use Rattle.nr_trace.specs.declared.fault.Fault.{Fault}
+use Rattle.nr_audit.specs.declared.histories.met.Met.{Met}
+use Rattle.nr_audit.specs.declared.histories.past.Past.{Past}
+use Rattle.nr_trace.specs.declared.refusals.fault.Fault.{Fault}
 use Rattle.nr_chain.specs.Fed.{IsKeptOf}
 use Rattle.nr_chain.specs.declared.chain.Last.{Last}
 use Rattle.nr_chain.specs.declared.chain.Step.TheVariants.{Right, Wrong}

@@ -5,11 +5,11 @@ use Rattle.nr_trace.specs.Recording.{Recording}
 use Rattle.nr_trace.specs.Spelling.{SpellsSegment}
 use Rattle.nr_trace.specs.FirstFault.{HasSegmentFault}
 use Rattle.nr_trace.specs.Orders.{recorded_order}
-use Rattle.nr_trace.specs.declared.fault.Fault.TheVariants.{Format}
+use Rattle.nr_trace.specs.declared.refusals.fault.Fault.TheVariants.{Format}
 use Rattle.nr_joined.specs.Run.{Run}
 use Rattle.nr_audit.specs.Faults.{IsFirstAfter, IsSoundAfter}
 use Rattle.nr_audit.specs.Segments.{run_after}
-use Rattle.nr_trace.specs.declared.fault.Fault.{Fault}
+use Rattle.nr_trace.specs.declared.refusals.fault.Fault.{Fault}
 
 -- how the segments before are laid out, if there are any
 abbrev pub layout_before : Option Run → Option Layout

@@ -1,9 +1,9 @@
 -- The runs of the worked examples.
 use Rattle.std.specs.Prelude.{[], ◌∷◌}
-use Rattle.vs_types.specs.declared.answer.Answer.TheVariants.{Done}
+use Rattle.vs_types.specs.declared.requests.answer.Answer.TheVariants.{Done}
 use Rattle.nr_trace.specs.Examples.{map_it, resolve_it, looks_mapped, dump_of_page, map_then_resolve}
-use Rattle.nr_trace.specs.declared.event.Event.TheVariants.{Call, Reply}
-use Rattle.nr_trace.specs.declared.event.Asked.TheVariants.{Request}
+use Rattle.nr_trace.specs.declared.recordings.event.Event.TheVariants.{Call, Reply}
+use Rattle.nr_trace.specs.declared.recordings.event.Asked.TheVariants.{Request}
 use Rattle.nr_chain.specs.Joined.{Segment}
 use Rattle.vs_walk.specs.Dump.{Image}
 

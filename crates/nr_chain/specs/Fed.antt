@@ -3,7 +3,7 @@ use Rattle.std.specs.Prelude.{◌≡◌, ℕ, List, Option, None, Some, ⊤}
 use Rattle.vs_types.specs.Config.{Layout}
 use Rattle.nr_joined.specs.Run.{Run}
 use Rattle.nr_audit.specs.Segments.{IsKept}
-use Rattle.nr_audit.specs.declared.past.Past.{Past}
+use Rattle.nr_audit.specs.declared.histories.past.Past.{Past}
 
 -- what is kept of the segments so far, for the next one: how they are laid out, the space after the last of them, and how addresses may still be
 -- found to look otherwise

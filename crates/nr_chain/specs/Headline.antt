@@ -1,7 +1,7 @@
 -- What a chain is right with.
 use Rattle.std.specs.Prelude.{◌≡◌, ℕ, ◌+◌, List, [], ◌∷◌, ◌++◌, length, map, All, Option, None, Some, ⊤}
 use Rattle.vs_types.specs.Space.{no_pages, IsSpace, Space}
-use Rattle.vs_types.specs.declared.depth.Depth.{Depth}
+use Rattle.vs_types.specs.declared.addresses.depth.Depth.{Depth}
 use Rattle.vs_walk.specs.Dump.{Image}
 use Rattle.vs_walk.specs.Walk.{TranslatesAs}
 use Rattle.nr_trace.specs.Recording.{Recording}

@@ -5,13 +5,13 @@ use Rattle.nr_trace.specs.Recording.{Recording}
 use Rattle.nr_trace.specs.FirstFault.{HasSegmentFault}
 use Rattle.nr_trace.specs.Orders.{recorded_order}
 use Rattle.nr_trace.specs.Spelling.{SpellsSegment}
-use Rattle.nr_trace.specs.declared.fault.Format.TheVariants.{Truncated}
+use Rattle.nr_trace.specs.declared.refusals.fault.Format.TheVariants.{Truncated}
 use Rattle.nr_audit.specs.Faults.{IsSoundAfter}
 use Rattle.nr_joined.specs.Run.{Run, end_of}
 use Rattle.nr_audit.specs.Met.{HasMet}
 use Rattle.nr_audit.specs.Segments.{run_after, FitsLayout}
 use Rattle.nr_audit.specs.Start.{begins_in}
-use Rattle.nr_trace.specs.declared.fault.Fault.{Fault}
+use Rattle.nr_trace.specs.declared.refusals.fault.Fault.{Fault}
 use Rattle.nr_chain.specs.Bytes.{layout_before, IsFirstNext, GoesOnSo}
 use Rattle.nr_chain.specs.declared.verdict.ChainVerdict.{ChainVerdict}
 use Rattle.nr_chain.specs.declared.verdict.ChainVerdict.TheVariants.{Yes, No}

@@ -1,7 +1,7 @@
 //! Laws of chains as bytes, and of touches. Each function does nothing: its clauses say what holds of all bytes.
 
 ghost use Rattle.std.specs.Prelude.{◌≡◌, ◌++◌, ℕ, List, Option, None, IfSome};
-ghost use Rattle.nr_trace.specs.declared.fault.Fault.{Fault};
+ghost use Rattle.nr_trace.specs.declared.refusals.fault.Fault.{Fault};
 ghost use Rattle.nr_chain.specs.Bytes.{GoesOnSo};
 ghost use Rattle.nr_joined.specs.Run.{Run, IsOrderly};
 ghost use Rattle.nr_chain.specs.Headline.{IsRightChain};

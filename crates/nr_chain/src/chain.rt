@@ -44,7 +44,7 @@ pub struct Chain {
 impl Model for Chain {
     ghost use Rattle.std.specs.Coded.{codes};
     ghost use Rattle.std.specs.Prelude.{option_map};
-    ghost use Rattle.nr_audit.specs.contracts.past.Past as past_contract;
+    ghost use Rattle.nr_audit.specs.contracts.histories.past.Past as past_contract;
     ghost use Rattle.nr_chain.specs.Fed.{ChainFed};
     ghost use Rattle.nr_chain.specs.inside.Between.{bytes_in, kept_by, IsBetween};
 

@@ -3,7 +3,7 @@ use Rattle.std.proofs.Common.{◌≡◌, ℕ, ◌≤◌, None, Contains, IsTrue,
 use Rattle.std.specs.Prelude.{IsSome}
 use Rattle.std.specs.FinMap as finite
 use Rattle.vs_types.specs.Space.{Space, table_count}
-use Rattle.vs_types.specs.declared.depth.Depth.{Depth}
+use Rattle.vs_types.specs.declared.addresses.depth.Depth.{Depth}
 use Rattle.vs_types.specs.declared.limits.TheConstants.{TABLES}
 use Rattle.vs_walk.specs.Dump.{Image}
 use Rattle.vs_walk.specs.Memory.{Memory}
@@ -13,7 +13,7 @@ use Rattle.vs_walk.proofs.SameFrames.{same_frames}
 use Rattle.vs_space.specs.Table.{PageTable, IsTableOf}
 use Rattle.nr_trace.specs.Parts.{HasFrames}
 use Rattle.nr_trace.specs.Recording.{IsThere}
-use Rattle.nr_trace.specs.declared.version.Version.TheVariants.{V1}
+use Rattle.nr_trace.specs.declared.formats.version.Version.TheVariants.{V1}
 use Rattle.nr_core.specs.State.{Replica}
 use Rattle.nr_core.specs.Run.{IsDumpOfReplica}
 

@@ -4,12 +4,12 @@ use Rattle.std.proofs.lemmas.List.{take_all}
 use Rattle.std.proofs.lemmas.List.Sums.{fold_more}
 use Rattle.std.specs.Prelude.{unwrap_or}
 use Rattle.vs_types.specs.Config.{Layout}
-use Rattle.vs_types.specs.declared.request.Query.{Query}
+use Rattle.vs_types.specs.declared.requests.request.Query.{Query}
 use Rattle.nr_trace.specs.Recording.{Recording}
 use Rattle.nr_core.specs.State.{State, start}
 use Rattle.nr_core.specs.Steps.{after_step}
 use Rattle.nr_core.specs.Run.{after_steps, IsRecordingOf, IsStepped}
-use Rattle.nr_core.specs.declared.step.Step.{Step}
+use Rattle.nr_core.specs.declared.runs.step.Step.{Step}
 
 stepped : (old : State) (o : Option State) (done : Bool) (new : State) → IsStepped old o done new → new ≡ unwrap_or o old
 stepped old None done new is = is.1

@@ -11,12 +11,12 @@ use Rattle.vs_types.specs.Operation.{IsAction}
 use Rattle.vs_types.specs.declared.limits.TheConstants.{LOG_PLACES}
 use Rattle.vs_types.specs.declared.log_entry.LogEntry.{LogEntry}
 use Rattle.nr_trace.specs.Recording.{IsEvent}
-use Rattle.nr_trace.specs.declared.event.Event.{Event}
-use Rattle.nr_trace.specs.declared.version.Version.TheVariants.{V2}
+use Rattle.nr_trace.specs.declared.recordings.event.Event.{Event}
+use Rattle.nr_trace.specs.declared.formats.version.Version.TheVariants.{V2}
 use Rattle.nr_core.specs.State.{State, Thread, Replica, with_thread, with_replica}
-use Rattle.nr_core.specs.declared.parts.ThreadState.{ThreadState}
-use Rattle.nr_core.specs.declared.state.Core.TheInside.{Inside}
-use Rattle.nr_core.specs.declared.parts.ReplicaState.{ReplicaState}
+use Rattle.nr_core.specs.declared.states.parts.ThreadState.{ThreadState}
+use Rattle.nr_core.specs.declared.states.state.Core.TheInside.{Inside}
+use Rattle.nr_core.specs.declared.states.parts.ReplicaState.{ReplicaState}
 use Rattle.nr_core.specs.inside.Fields.{parts_in}
 use Rattle.nr_core.specs.inside.Parts.{thread_in, replica_in, state_in, events_left, IsThread, IsReplica, AreParts, Parts}
 

@@ -7,11 +7,11 @@ use Rattle.std.proofs.lemmas.List.Elements.{All-map}
 use Rattle.std.proofs.lemmas.List.Sums.{sum_by-cons}
 use Rattle.vs_types.specs.Config.{Layout}
 use Rattle.vs_types.specs.Query.{IsQuery}
-use Rattle.vs_types.specs.declared.request.Query.{Query}
+use Rattle.vs_types.specs.declared.requests.request.Query.{Query}
 use Rattle.vs_types.specs.Query.{AreScripts}
 use Rattle.nr_trace.proofs.LawsOfLists.{All-unmap}
 use Rattle.nr_core.specs.State.{new_thread, new_replica}
-use Rattle.nr_core.specs.declared.parts.ReplicaState.{ReplicaState}
+use Rattle.nr_core.specs.declared.states.parts.ReplicaState.{ReplicaState}
 use Rattle.nr_core.specs.inside.Parts.{thread_in, thread_of, replica_in, events_left, IsThread, IsReplica, AreParts}
 
 pub threads_good : (layout : Layout) (scripts : List (Vec Query)) → AreScripts layout (map (λ script. script.items) scripts)

@@ -1,12 +1,12 @@
 -- A worked example: one thread of one replica maps a page and resolves an address in it, by each of the twelve steps.
 use Rattle.std.specs.Prelude.{List, [], ◌∷◌, map}
-use Rattle.vs_types.specs.declared.request.Query.{Query}
+use Rattle.vs_types.specs.declared.requests.request.Query.{Query}
 use Rattle.nr_trace.specs.Examples.{map_it, resolve_it, map_then_resolve}
 use Rattle.nr_core.specs.State.{State, start}
 use Rattle.nr_core.specs.Run.{after_steps}
-use Rattle.nr_core.specs.declared.step.Act.{Act}
-use Rattle.nr_core.specs.declared.step.Act.TheVariants.{Call, Post, Take, Collect, Append, Advance, Apply, Answer, Release, Look, Read, Reply}
-use Rattle.nr_core.specs.declared.step.Step.{Step}
+use Rattle.nr_core.specs.declared.runs.step.Act.{Act}
+use Rattle.nr_core.specs.declared.runs.step.Act.TheVariants.{Call, Post, Take, Collect, Append, Advance, Apply, Answer, Release, Look, Read, Reply}
+use Rattle.nr_core.specs.declared.runs.step.Step.{Step}
 
 abbrev pub one_script : List (List Query)
 one_script = (map_it ∷ resolve_it ∷ []) ∷ []

@@ -2,7 +2,7 @@
 use Rattle.std.specs.Prelude.{◌≡◌, ℕ, List, slice_get, Option, Some, option_map}
 use Rattle.nr_core.specs.State.{State, Thread, Replica}
 use Rattle.nr_core.specs.Steps.{by_holder, by_thread, noted_for, with_ready}
-use Rattle.nr_core.specs.declared.stage.Stage.TheVariants.{Taken}
+use Rattle.nr_core.specs.declared.states.stage.Stage.TheVariants.{Taken}
 
 -- the thread's update, of this call, is taken
 abbrev pub IsTaken : List Thread → ℕ → ℕ → Type 0

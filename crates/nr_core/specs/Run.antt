@@ -2,19 +2,19 @@
 use Rattle.std.specs.Prelude.{◌≡◌, ◌↔◌, ℕ, List, map, Bool, true, false, unwrap_or, Option, Some, None}
 use Rattle.std.specs.List.{fold, AllZip}
 use Rattle.vs_types.specs.Config.{Layout}
-use Rattle.vs_types.specs.declared.depth.Depth.{Depth}
-use Rattle.vs_types.specs.declared.request.Query.{Query}
+use Rattle.vs_types.specs.declared.addresses.depth.Depth.{Depth}
+use Rattle.vs_types.specs.declared.requests.request.Query.{Query}
 use Rattle.vs_walk.specs.Differences.{IsStray}
 use Rattle.vs_walk.specs.Dump.{Image}
 use Rattle.vs_walk.specs.Traversal.{walk_fault}
 use Rattle.vs_walk.specs.Walk.{TranslatesAs}
 use Rattle.nr_trace.specs.Recording.{IsThere, Recording}
 use Rattle.nr_trace.specs.Versions.{FitsFirst, IsVersionOf}
-use Rattle.nr_trace.specs.declared.version.Form.TheVariants as forms
-use Rattle.nr_trace.specs.declared.version.Version.TheVariants.{V1}
+use Rattle.nr_trace.specs.declared.formats.version.Form.TheVariants as forms
+use Rattle.nr_trace.specs.declared.formats.version.Version.TheVariants.{V1}
 use Rattle.nr_core.specs.State.{State, Replica, start}
 use Rattle.nr_core.specs.Steps.{after_step}
-use Rattle.nr_core.specs.declared.step.Step.{Step}
+use Rattle.nr_core.specs.declared.runs.step.Step.{Step}
 
 -- a call that makes a step: it has made it where that is enabled, and else nothing
 abbrev pub IsStepped : State → Option State → Bool → State → Type 0

@@ -4,11 +4,11 @@ use Rattle.std.specs.Prelude.{ℕ, ◌%◌, List, [], length, map, replicate, sl
 use Rattle.vs_types.specs.Config.{Layout}
 use Rattle.vs_types.specs.Space.{Space, no_pages}
 use Rattle.vs_types.specs.declared.log_entry.LogEntry.{LogEntry}
-use Rattle.vs_types.specs.declared.request.Query.{Query}
-use Rattle.nr_trace.specs.declared.event.Event.{Event}
-use Rattle.nr_core.specs.declared.stage.Stage.{Stage}
-use Rattle.nr_core.specs.declared.stage.Stage.TheVariants.{Idle}
-use Rattle.nr_core.specs.declared.stage.Collected.{Collected}
+use Rattle.vs_types.specs.declared.requests.request.Query.{Query}
+use Rattle.nr_trace.specs.declared.recordings.event.Event.{Event}
+use Rattle.nr_core.specs.declared.states.stage.Stage.{Stage}
+use Rattle.nr_core.specs.declared.states.stage.Stage.TheVariants.{Idle}
+use Rattle.nr_core.specs.declared.states.stage.Collected.{Collected}
 
 -- a thread: the requests left of its script, how far it has come with its call, and the replica whose lock it holds
 pub record Thread : Type 0 where

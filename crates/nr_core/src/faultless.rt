@@ -8,11 +8,11 @@ ghost use Rattle.nr_trace.specs.Laws.{HasCleanLog, IsFaultless};
 ghost use Rattle.nr_trace.specs.Orders.{IsLegalOrder, FitsOrder, recorded_order};
 ghost use Rattle.nr_trace.specs.Recording.{Recording};
 ghost use Rattle.nr_trace.specs.Spelling.{Spells};
-ghost use Rattle.nr_trace.specs.declared.fault.Fault.{Fault};
-ghost use Rattle.nr_trace.specs.declared.fault.Fault.TheVariants.{Early, WrongAnswer};
-ghost use Rattle.nr_trace.specs.declared.fault.Fault.TheVariants.{PrefixPastLog, PrefixShort};
-ghost use Rattle.nr_trace.specs.declared.fault.Fault.TheVariants.{MissingFrame, SharedFrame};
-ghost use Rattle.nr_trace.specs.declared.fault.Fault.TheVariants.{ReservedBit, StrayFrame, Differs};
+ghost use Rattle.nr_trace.specs.declared.refusals.fault.Fault.{Fault};
+ghost use Rattle.nr_trace.specs.declared.refusals.fault.Fault.TheVariants.{Early, WrongAnswer};
+ghost use Rattle.nr_trace.specs.declared.refusals.fault.Fault.TheVariants.{PrefixPastLog, PrefixShort};
+ghost use Rattle.nr_trace.specs.declared.refusals.fault.Fault.TheVariants.{MissingFrame, SharedFrame};
+ghost use Rattle.nr_trace.specs.declared.refusals.fault.Fault.TheVariants.{ReservedBit, StrayFrame, Differs};
 ghost use Rattle.nr_core.specs.Faultless.{IsRecordingOfSteps};
 
 /// No thread makes a call while one is open, each reply answers a call before it, no call is answered twice, the log has nothing

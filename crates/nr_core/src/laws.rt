@@ -6,7 +6,7 @@ ghost use Rattle.nr_core.specs.Laws.{answer_noted, HasHolder, HoldsLockOf, IsTak
 ghost use Rattle.nr_core.specs.Run.{IsReachable};
 ghost use Rattle.nr_core.specs.State.{State, Replica};
 ghost use Rattle.nr_core.specs.Steps.{answer, noted_for};
-ghost use Rattle.nr_core.specs.declared.stage.Answered.{Answered};
+ghost use Rattle.nr_core.specs.declared.states.stage.Answered.{Answered};
 
 /// An answer is noted for a thread only while its update is taken, and is the answer of that call. So `Answer` is the same step
 /// whether it asks that the update is taken, or for the note alone.

@@ -4,23 +4,13 @@
 //! A place is an index of the log; a call's number is the index of its event. No call waits.
 #![tactic(auto)]
 
-mod batch;
 pub mod examples;
 pub mod faultless;
 pub mod laws;
-mod parts;
-mod recording;
-mod replicas;
-mod running;
-mod stage;
-mod start;
-mod state;
-mod step;
-mod stepping;
+mod runs;
+mod states;
 mod steps;
-mod table;
-mod threads;
 
-pub use running::run_steps;
-pub use state::Core;
-pub use step::{Act, Step};
+pub use runs::running::run_steps;
+pub use runs::step::{Act, Step};
+pub use states::state::Core;

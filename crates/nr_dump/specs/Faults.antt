@@ -2,7 +2,7 @@
 use Rattle.std.specs.Prelude.{ℕ, ◌<◌, nat_eq}
 use Rattle.std.specs.List.{IsDistinct}
 use Rattle.vs_types.specs.Space.{Space}
-use Rattle.vs_types.specs.declared.depth.Depth.{Depth}
+use Rattle.vs_types.specs.declared.addresses.depth.Depth.{Depth}
 use Rattle.vs_walk.specs.Walk.{TranslatesAs}
 use Rattle.vs_walk.specs.Traversal.{traversal, reached}
 use Rattle.vs_walk.specs.Differences.{IsStray, HasMissingFrame, HasSharedFrame, HasReservedBit, HasStrayFrame, HasDifference}

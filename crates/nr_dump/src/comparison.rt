@@ -2,7 +2,7 @@
 
 ghost use Rattle.std.specs.Prelude.{◌≡◌, ◌↔◌, ◌++◌, ◌∷◌, [], List, Option, IsTrue, IsOk, IfOk};
 ghost use Rattle.nr_dump.specs.inside.Comparing.{AreTaken, HasCompared, IsCompared};
-ghost use Rattle.vs_types.specs.declared.page.Page.{Page};
+ghost use Rattle.vs_types.specs.declared.addresses.page.Page.{Page};
 
 use vs_plain::Pages;
 use vs_types::{Memory, Page};

@@ -1,6 +1,6 @@
 //! Laws of the definitions in `specs/`. Each function does nothing: its clauses say what holds of every dump.
 ghost use Rattle.std.specs.Prelude.{◌≡◌, ◌↔◌};
-ghost use Rattle.vs_types.specs.declared.depth.Depth.{Depth};
+ghost use Rattle.vs_types.specs.declared.addresses.depth.Depth.{Depth};
 ghost use Rattle.vs_types.specs.Space.{Space, IsSpace};
 ghost use Rattle.vs_walk.specs.Dump.{Image, IsDump};
 ghost use Rattle.nr_dump.specs.declared.fault.DumpFault.{DumpFault};

@@ -7,9 +7,9 @@ use Rattle.std.proofs.lemmas.Bool.Decides.{nat_tests}
 use Rattle.std.proofs.lemmas.Option.{none-some, same_Some, slice_get-get_or, slice_get_within}
 use Rattle.nr_trace.specs.Recording.{Recording}
 use Rattle.nr_trace.specs.Calls.{Answers, Invocation, IsCall, call_of, made_by, touch_of, unordered_in}
-use Rattle.nr_trace.specs.declared.event.Event.{Event}
-use Rattle.nr_trace.specs.declared.event.Asked.{Asked}
-use Rattle.nr_trace.specs.declared.event.Asked.TheVariants as askeds
+use Rattle.nr_trace.specs.declared.recordings.event.Event.{Event}
+use Rattle.nr_trace.specs.declared.recordings.event.Asked.{Asked}
+use Rattle.nr_trace.specs.declared.recordings.event.Asked.TheVariants as askeds
 use Rattle.nr_trace.specs.Laws.{HasCleanLog}
 use Rattle.nr_trace.proofs.LawsOfCalls.{answers_from, reply_that_answers}
 use Rattle.nr_touch.specs.Touches.{IsAnsweredBefore}

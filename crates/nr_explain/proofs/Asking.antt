@@ -6,16 +6,16 @@ use Rattle.vs_types.specs.Operation.{IsAction, IsBase}
 use Rattle.vs_types.specs.Page.{bytes_of, covers, IsPage}
 use Rattle.vs_types.specs.Space.{Space, Holds, IsSpace, page_at, least_overlapped}
 use Rattle.vs_types.specs.Step.{look, look_in_page, step}
-use Rattle.vs_types.specs.declared.answer.Answer.{Answer}
-use Rattle.vs_types.specs.declared.answer.Answer.TheVariants.{Mapped}
-use Rattle.vs_types.specs.declared.depth.Depth.{Depth}
-use Rattle.vs_types.specs.declared.op.Action.{Action}
-use Rattle.vs_types.specs.declared.op.Action.TheVariants.{Map, Unmap, Protect}
-use Rattle.vs_types.specs.declared.page.Page.{Page}
-use Rattle.vs_types.specs.declared.page.Rights.{Rights}
-use Rattle.vs_types.specs.declared.page.Size.{Size}
-use Rattle.vs_types.specs.declared.request.Query.{Query}
-use Rattle.vs_types.specs.declared.request.Query.TheVariants.{Update, Resolve, Access}
+use Rattle.vs_types.specs.declared.requests.answer.Answer.{Answer}
+use Rattle.vs_types.specs.declared.requests.answer.Answer.TheVariants.{Mapped}
+use Rattle.vs_types.specs.declared.addresses.depth.Depth.{Depth}
+use Rattle.vs_types.specs.declared.requests.op.Action.{Action}
+use Rattle.vs_types.specs.declared.requests.op.Action.TheVariants.{Map, Unmap, Protect}
+use Rattle.vs_types.specs.declared.addresses.page.Page.{Page}
+use Rattle.vs_types.specs.declared.addresses.page.Rights.{Rights}
+use Rattle.vs_types.specs.declared.addresses.page.Size.{Size}
+use Rattle.vs_types.specs.declared.requests.request.Query.{Query}
+use Rattle.vs_types.specs.declared.requests.request.Query.TheVariants.{Update, Resolve, Access}
 use Rattle.vs_types.proofs.Overlaps.{none_overlapped}
 use Rattle.vs_types.proofs.Pages.{covers_base, covers_means, overlaps_shares, same_aligned, same_page}
 use Rattle.vs_types.proofs.Spaces.{page_at_means, put_back, remove_cases, remove_space}

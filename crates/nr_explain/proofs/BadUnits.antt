@@ -3,10 +3,10 @@ use Rattle.std.proofs.Common.{◌≡◌, ℕ, ◌+◌, ◌-◌, ◌≤◌, List,
 use Rattle.std.proofs.lemmas.List.{append-nil, append_cancel_left, length-append, length-drop, length-take-le, take-append-drop, take-append-le, take-take}
 use Rattle.std.proofs.lemmas.List.{take_at, take_min}
 use Rattle.nr_trace.specs.FirstFault.{HasRefusalAs, IsRefusedBy, refusal_at, unit_size}
-use Rattle.nr_trace.specs.declared.refusal.Refusal.{Refusal}
-use Rattle.nr_trace.specs.declared.refusal.TraceUnit.{TraceUnit}
-use Rattle.nr_trace.specs.declared.version.Form.{Form}
-use Rattle.nr_trace.specs.declared.version.Form.TheVariants as forms
+use Rattle.nr_trace.specs.declared.refusals.refusal.Refusal.{Refusal}
+use Rattle.nr_trace.specs.declared.refusals.refusal.TraceUnit.{TraceUnit}
+use Rattle.nr_trace.specs.declared.formats.version.Form.{Form}
+use Rattle.nr_trace.specs.declared.formats.version.Form.TheVariants as forms
 use Rattle.nr_trace.proofs.LawsOfFormat.{one_refusal}
 use Rattle.nr_trace.proofs.Units.{more_left}
 use Rattle.nr_explain.specs.Fields.{field_fault}

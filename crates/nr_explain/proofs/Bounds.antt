@@ -14,15 +14,15 @@ use Rattle.nr_trace.specs.FirstFault.{AtLog}
 use Rattle.nr_trace.specs.FirstFault.{HasRefusalAs, IsCounts, IsDumpHead}
 use Rattle.nr_trace.specs.FirstFault.{IsNext}
 use Rattle.nr_trace.specs.Feed.{HasNoFaultYet}
-use Rattle.nr_trace.specs.declared.refusal.Refusal.{Refusal}
-use Rattle.nr_trace.specs.declared.refusal.TraceUnit.{TraceUnit}
-use Rattle.nr_trace.specs.declared.refusal.TraceUnit.TheVariants as units
-use Rattle.nr_trace.specs.declared.version.Version.{Version}
-use Rattle.nr_trace.specs.declared.version.Version.TheVariants.{Segment}
-use Rattle.nr_trace.specs.declared.version.Form.TheVariants as forms
-use Rattle.nr_trace.specs.declared.fields.Counts.{Counts}
-use Rattle.nr_trace.specs.declared.fault.Format.{Format}
-use Rattle.nr_trace.specs.declared.fault.Format.TheVariants.{BadMagic, BadVersion, BadCount, BadEvent, BadFrame, Truncated}
+use Rattle.nr_trace.specs.declared.refusals.refusal.Refusal.{Refusal}
+use Rattle.nr_trace.specs.declared.refusals.refusal.TraceUnit.{TraceUnit}
+use Rattle.nr_trace.specs.declared.refusals.refusal.TraceUnit.TheVariants as units
+use Rattle.nr_trace.specs.declared.formats.version.Version.{Version}
+use Rattle.nr_trace.specs.declared.formats.version.Version.TheVariants.{Segment}
+use Rattle.nr_trace.specs.declared.formats.version.Form.TheVariants as forms
+use Rattle.nr_trace.specs.declared.formats.fields.Counts.{Counts}
+use Rattle.nr_trace.specs.declared.refusals.fault.Format.{Format}
+use Rattle.nr_trace.specs.declared.refusals.fault.Format.TheVariants.{BadMagic, BadVersion, BadCount, BadEvent, BadFrame, Truncated}
 use Rattle.nr_trace.proofs.LawsOfBytes.{spelled_or_fault}
 use Rattle.nr_trace.proofs.LawsOfFormat.{BehindCounts, BehindVersion, BehindMagic}
 use Rattle.nr_trace.proofs.LawsOfLength.{no_longer}

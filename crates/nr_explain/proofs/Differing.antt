@@ -6,7 +6,7 @@ use Rattle.vs_types.specs.Space.{Space}
 use Rattle.vs_walk.specs.Dump.{Image}
 use Rattle.nr_trace.specs.Recording.{IsThere, Recording}
 use Rattle.nr_trace.specs.Faults.{IsFirstFrom}
-use Rattle.nr_trace.specs.declared.fault.Fault.TheVariants.{Differs, PrefixPastLog}
+use Rattle.nr_trace.specs.declared.refusals.fault.Fault.TheVariants.{Differs, PrefixPastLog}
 use Rattle.nr_trace.proofs.LawsOfFaults.{less_from_below}
 
 -- it has applied no more than the log has

@@ -9,10 +9,10 @@ use Rattle.vs_walk.specs.Dump.{Image}
 use Rattle.nr_trace.specs.Recording.{IsEvent, IsRecording, IsThere, Recording}
 use Rattle.nr_trace.specs.Calls.{Invocation, Response, call_of, made_by, reply_of}
 use Rattle.nr_trace.specs.Orders.{known_by, space_after}
-use Rattle.nr_trace.specs.declared.event.Event.{Event}
-use Rattle.nr_trace.specs.declared.event.Event.TheVariants.{Reply}
-use Rattle.nr_trace.specs.declared.fault.Fault.{Fault}
-use Rattle.nr_trace.specs.declared.fault.Fault.TheVariants.{PrefixPastLog, PrefixShort, Reachable, Stale}
+use Rattle.nr_trace.specs.declared.recordings.event.Event.{Event}
+use Rattle.nr_trace.specs.declared.recordings.event.Event.TheVariants.{Reply}
+use Rattle.nr_trace.specs.declared.refusals.fault.Fault.{Fault}
+use Rattle.nr_trace.specs.declared.refusals.fault.Fault.TheVariants.{PrefixPastLog, PrefixShort, Reachable, Stale}
 use Rattle.nr_trace.specs.Faults.{HasFault}
 use Rattle.nr_trace.proofs.LawsOfCalls.{reply_in_event}
 use Rattle.nr_dump.specs.Faults.{HasNoFault, IsFirstOfDump}

@@ -1,7 +1,7 @@
 -- The looks of a touch's address that linger behind the segments before.
 use Rattle.std.proofs.Common.{◌≡◌, ◌↔◌, ℕ, ◌<◌, Bool, true, false, not, List, [], Option, Some, None, Contains, refl, sym, subst, arith}
 use Rattle.std.specs.Prelude.{filter, IfSome}
-use Rattle.vs_types.specs.declared.answer.Answer.{Answer}
+use Rattle.vs_types.specs.declared.requests.answer.Answer.{Answer}
 use Rattle.nr_trace.specs.Recording.{Recording}
 use Rattle.nr_trace.proofs.LawsOfLists.{Contains-from_in, in_from_Contains, in_filter, in_filtered}
 use Rattle.nr_touch.specs.Looks.{AreLooksLeft, IsLookLeft}

@@ -2,10 +2,10 @@
 use Rattle.std.proofs.Common.{◌≡◌, ℕ, List, [], length, refl, sym, subst}
 use Rattle.nr_trace.specs.Recording.{Recording}
 use Rattle.nr_trace.specs.Spelling.{Spells}
-use Rattle.nr_trace.specs.declared.fault.Fault.{Fault}
-use Rattle.nr_trace.specs.declared.fault.Fault.TheVariants as faults
-use Rattle.nr_audit.specs.declared.verdict.Order.{Order}
-use Rattle.nr_audit.specs.declared.verdict.Verdict.TheVariants as verdicts
+use Rattle.nr_trace.specs.declared.refusals.fault.Fault.{Fault}
+use Rattle.nr_trace.specs.declared.refusals.fault.Fault.TheVariants as faults
+use Rattle.nr_audit.specs.declared.verdicts.verdict.Order.{Order}
+use Rattle.nr_audit.specs.declared.verdicts.verdict.Verdict.TheVariants as verdicts
 use Rattle.nr_audit.proofs.PartsOfVerdicts.{of_spelled}
 use Rattle.nr_explain.specs.Dumps.{AreDumpsOf, AreToldOfDumps, IsFullExplanationOf, replica_of}
 use Rattle.nr_explain.specs.Evidence.{IsEvidence}

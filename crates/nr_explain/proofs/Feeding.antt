@@ -9,17 +9,17 @@ use Rattle.nr_trace.specs.Spelling.{SpellsSegment}
 use Rattle.nr_trace.specs.FirstFault.{HasFaultAs, HasSegmentFault}
 use Rattle.nr_trace.specs.Feed.{EndsSegment, Fed, FedSegment, FeedsSegment, IsRefusedAs, IsWhole}
 use Rattle.nr_trace.specs.Feed.Fed.{Taken, Stopped}
-use Rattle.nr_trace.specs.declared.fault.Format.{Format}
-use Rattle.nr_trace.specs.declared.fault.Format.TheVariants.{Truncated}
-use Rattle.nr_trace.specs.declared.fault.Fault.TheVariants as faults
-use Rattle.nr_trace.specs.declared.version.Form.TheVariants as forms
-use Rattle.nr_trace.specs.declared.fault.Fault.{Fault}
+use Rattle.nr_trace.specs.declared.refusals.fault.Format.{Format}
+use Rattle.nr_trace.specs.declared.refusals.fault.Format.TheVariants.{Truncated}
+use Rattle.nr_trace.specs.declared.refusals.fault.Fault.TheVariants as faults
+use Rattle.nr_trace.specs.declared.formats.version.Form.TheVariants as forms
+use Rattle.nr_trace.specs.declared.refusals.fault.Fault.{Fault}
 use Rattle.nr_chain.specs.Bytes.{BeginsWith, EndsWith}
 use Rattle.nr_chain.specs.inside.Between.{bytes_in}
 use Rattle.nr_chain.proofs.Ends.{ends_first, none_is_short}
 use Rattle.nr_chain.proofs.OneChain.{not_empty}
 use Rattle.nr_chain.proofs.Pieces.{Took, some_taken, spelled_whole, took, took_all, too_short}
-use Rattle.nr_audit.specs.declared.past.Past.{Past}
+use Rattle.nr_audit.specs.declared.histories.past.Past.{Past}
 use Rattle.nr_explain.specs.Progress.{ChainState, ReaderState, state_after, layout_in, run_in, IsSeenOf}
 use Rattle.nr_explain.specs.ChainExplanation.{Explains, FeedsReader, GoesOnTo, IsExplanationFrom, IsShownNext, IsShownOf}
 use Rattle.nr_explain.specs.inside.Reading.{all_states, layout_seen, AreTwice, FitsProgress, IsKnown, IsReading}
@@ -28,7 +28,7 @@ use Rattle.nr_explain.proofs.Cuts.{cut_so}
 use Rattle.nr_explain.proofs.Known.{layout_alike}
 use Rattle.nr_explain.proofs.BadUnits.{bad_unit_lasts, refused_alone}
 use Rattle.nr_trace.specs.FirstFault.{HasRefusalAs, IsRefusedBy}
-use Rattle.nr_trace.specs.declared.refusal.Refusal.{Refusal}
+use Rattle.nr_trace.specs.declared.refusals.refusal.Refusal.{Refusal}
 use Rattle.nr_explain.specs.inside.Steps.{EndsWithin, HasGoneOn, IsRefusalOf, IsWrongOf, JudgedTo, JudgesTo, StepsTo}
 use Rattle.nr_explain.specs.declared.chain.progress.Progress.{Progress}
 use Rattle.nr_explain.specs.declared.chain.evidence.SegmentEvidence.{SegmentEvidence}

@@ -8,9 +8,9 @@ use Rattle.nr_trace.specs.Recording.{IsThere, Recording}
 use Rattle.nr_trace.specs.Calls.{Invocation, IsCall, IsUpdate, Response, call_of, reply_of}
 use Rattle.nr_trace.specs.Faults.{IsFirst, OpensTwice}
 use Rattle.nr_trace.specs.Laws.{HasCleanLog}
-use Rattle.nr_trace.specs.declared.fault.Fault.{Fault}
-use Rattle.nr_trace.specs.declared.fault.Fault.TheVariants.{AnsweredTwice, Differs, Early, NoSuchCall, NotAnUpdate, NotPlaced, PastLog, PlacedTwice}
-use Rattle.nr_trace.specs.declared.fault.Fault.TheVariants.{PrefixPastLog, ThreadOpen}
+use Rattle.nr_trace.specs.declared.refusals.fault.Fault.{Fault}
+use Rattle.nr_trace.specs.declared.refusals.fault.Fault.TheVariants.{AnsweredTwice, Differs, Early, NoSuchCall, NotAnUpdate, NotPlaced, PastLog, PlacedTwice}
+use Rattle.nr_trace.specs.declared.refusals.fault.Fault.TheVariants.{PrefixPastLog, ThreadOpen}
 use Rattle.nr_trace.proofs.LawsOfCalls.{behind_its_call, update_from_not_not}
 use Rattle.nr_trace.proofs.LawsOfFaults.{less_from_below}
 use Rattle.nr_explain.specs.Dumps.{IsFirstOfItsDump, replica_of}

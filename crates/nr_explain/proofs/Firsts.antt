@@ -6,17 +6,17 @@ use Rattle.vs_types.specs.Space.{Space, no_pages}
 use Rattle.nr_trace.specs.Recording.{Recording}
 use Rattle.nr_trace.specs.Faults.{Earlier, HasFault, HasFaultFrom, IsFirst, IsFirstFrom}
 use Rattle.nr_trace.specs.Laws.{HasCleanLog}
-use Rattle.nr_trace.specs.declared.fault.Format.{Format as FormatFault}
-use Rattle.nr_trace.specs.declared.fault.Fault.{Fault}
-use Rattle.nr_trace.specs.declared.fault.Fault.TheVariants.{Format, ThreadOpen, NoSuchCall, AnsweredTwice, NotAnUpdate, PlacedTwice, NotPlaced, PastLog}
-use Rattle.nr_trace.specs.declared.fault.Fault.TheVariants.{WrongAnswer, PrefixPastLog, PrefixShort, MissingFrame, SharedFrame, ReservedBit, StrayFrame}
-use Rattle.nr_trace.specs.declared.fault.Fault.TheVariants.{Differs}
+use Rattle.nr_trace.specs.declared.refusals.fault.Format.{Format as FormatFault}
+use Rattle.nr_trace.specs.declared.refusals.fault.Fault.{Fault}
+use Rattle.nr_trace.specs.declared.refusals.fault.Fault.TheVariants.{Format, ThreadOpen, NoSuchCall, AnsweredTwice, NotAnUpdate, PlacedTwice, NotPlaced, PastLog}
+use Rattle.nr_trace.specs.declared.refusals.fault.Fault.TheVariants.{WrongAnswer, PrefixPastLog, PrefixShort, MissingFrame, SharedFrame, ReservedBit, StrayFrame}
+use Rattle.nr_trace.specs.declared.refusals.fault.Fault.TheVariants.{Differs}
 use Rattle.nr_trace.proofs.LawsOfFaults.{IsBelow, below_from_less, earlier_parts, earlier_pass, number_of, pass}
 use Rattle.nr_audit.specs.Start.{first_space, space_before, HasStartFault, BeginsRight}
 use Rattle.nr_joined.specs.Run.{Run}
 use Rattle.nr_touch.specs.Tails.{GoesOn}
 use Rattle.nr_audit.specs.Faults.{HasFaultAfter, IsFirstAfter}
-use Rattle.nr_trace.specs.declared.fault.Fault.TheVariants.{StartMissing, StartShared, StartReserved, StartStray, StartBeyond, StartDiffers, Stale, Reachable}
+use Rattle.nr_trace.specs.declared.refusals.fault.Fault.TheVariants.{StartMissing, StartShared, StartReserved, StartStray, StartBeyond, StartDiffers, Stale, Reachable}
 use Rattle.nr_audit.proofs.Judgements.{of_start}
 use Rattle.nr_audit.proofs.Starts.{start_pass}
 use Rattle.nr_explain.specs.Dumps.{IsFirstOfItsDump, replica_of}

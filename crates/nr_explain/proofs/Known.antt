@@ -1,9 +1,9 @@
 -- What is kept of a run, beside the run.
 use Rattle.std.proofs.Common.{◌≡◌, ◌↔◌, ℕ, Bool, true, false, List, length, Option, Some, None, Contains, is_some, refl, ap, subst}
 use Rattle.vs_types.specs.Space.{Space, pages}
-use Rattle.vs_types.specs.declared.answer.Answer.{Answer}
+use Rattle.vs_types.specs.declared.requests.answer.Answer.{Answer}
 use Rattle.nr_trace.specs.Recording.{Recording}
-use Rattle.nr_trace.specs.declared.fault.Fault.{Fault}
+use Rattle.nr_trace.specs.declared.refusals.fault.Fault.{Fault}
 use Rattle.nr_touch.specs.Looks.{IsLookLeft}
 use Rattle.nr_touch.specs.Tails.{GoesOn}
 use Rattle.nr_audit.specs.Start.{first_space}

@@ -7,7 +7,7 @@ use Rattle.std.proofs.lemmas.List.Elements.{All-append, All-cons, All-nil, All-w
 use Rattle.vs_types.specs.Space.{Space}
 use Rattle.vs_types.proofs.Lists.{Contains-head}
 use Rattle.vs_walk.proofs.LawsOfLists.{all_pairs_append}
-use Rattle.vs_types.specs.declared.answer.Answer.{Answer}
+use Rattle.vs_types.specs.declared.requests.answer.Answer.{Answer}
 use Rattle.nr_trace.specs.Recording.{Recording}
 use Rattle.nr_explain.specs.ChainEvidence.{AreLooks}
 use Rattle.nr_explain.specs.Facts.{looks_from}

@@ -4,10 +4,10 @@ use Rattle.std.specs.Prelude.{IfNone, IfSome}
 use Rattle.vs_types.specs.Page.{bytes_of, covers, IsPage}
 use Rattle.vs_types.specs.Space.{Space, IsSpace, page_at, pages}
 use Rattle.vs_types.specs.Step.{look_in_page}
-use Rattle.vs_types.specs.declared.answer.Answer.TheVariants.{Mapped}
-use Rattle.vs_types.specs.declared.depth.Depth.{Depth}
-use Rattle.vs_types.specs.declared.page.Page.{Page}
-use Rattle.vs_types.specs.declared.page.TheConstants.Page.{PHYS_END}
+use Rattle.vs_types.specs.declared.requests.answer.Answer.TheVariants.{Mapped}
+use Rattle.vs_types.specs.declared.addresses.depth.Depth.{Depth}
+use Rattle.vs_types.specs.declared.addresses.page.Page.{Page}
+use Rattle.vs_types.specs.declared.addresses.page.TheConstants.Page.{PHYS_END}
 use Rattle.vs_types.proofs.Pages.{canonical_fits, covered_canonical, covers_means}
 use Rattle.vs_types.proofs.Spaces.{holds_listed, page_at_means}
 use Rattle.nr_explain.specs.Nearest.{IsWhere, Translates}

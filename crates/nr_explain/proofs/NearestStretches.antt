@@ -3,8 +3,8 @@ use Rattle.std.proofs.Common.{◌≡◌, ℕ, ◌+◌, ◌<◌, ◌≤◌, ◌�
 use Rattle.std.specs.Prelude.{nat_le, nat_lt, if◌then◌else◌}
 use Rattle.std.proofs.lemmas.Bool.{and_from, and_parts, both_ways, cases_eq, cases_lt, eq-eqb, le-leb, leb-true, lt-ltb, ltb-true, ne_eqb}
 use Rattle.vs_types.specs.Space.{Space}
-use Rattle.vs_types.specs.declared.answer.Answer.{Answer}
-use Rattle.vs_types.specs.declared.request.Query.{Query}
+use Rattle.vs_types.specs.declared.requests.answer.Answer.{Answer}
+use Rattle.vs_types.specs.declared.requests.request.Query.{Query}
 use Rattle.nr_trace.specs.Recording.{Recording}
 use Rattle.nr_explain.specs.Nearest.{AreAll, IsFirstStretch, IsLastStretch, IsRightAfter}
 use Rattle.nr_explain.specs.inside.Nearest.{IsNearestBelow, alone, begun, prolonged, tried}

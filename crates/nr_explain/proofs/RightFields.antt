@@ -13,30 +13,30 @@ use Rattle.vs_types.specs.Depth.{is_canonical, levels, IsCanonical}
 use Rattle.vs_types.specs.Fields.{request_fields}
 use Rattle.vs_types.specs.Page.{bytes_of}
 use Rattle.vs_types.specs.Query.{IsQuery}
-use Rattle.vs_types.specs.declared.access.Mode.{Mode}
-use Rattle.vs_types.specs.declared.access.Mode.TheVariants.{Supervisor, User}
-use Rattle.vs_types.specs.declared.access.Access.{Access}
-use Rattle.vs_types.specs.declared.access.Access.TheVariants.{Read, Write, Fetch}
-use Rattle.vs_types.specs.declared.answer.Answer.{Answer}
-use Rattle.vs_types.specs.declared.answer.Answer.TheVariants as answers
-use Rattle.vs_types.specs.declared.depth.Depth.{Depth}
-use Rattle.vs_types.specs.declared.depth.Depth.TheVariants.{Four, Five}
-use Rattle.vs_types.specs.declared.fields.RequestFields.{RequestFields}
-use Rattle.vs_types.specs.declared.op.Action.{Action}
-use Rattle.vs_types.specs.declared.op.Action.TheVariants.{Map, Unmap, Protect}
-use Rattle.vs_types.specs.declared.page.Page.{Page}
-use Rattle.vs_types.specs.declared.page.Size.{Size as PageSize}
-use Rattle.vs_types.specs.declared.page.Size.TheVariants.{K4}
-use Rattle.vs_types.specs.declared.page.TheConstants.Page.{PHYS_END}
-use Rattle.vs_types.specs.declared.request.Query.{Query}
-use Rattle.vs_types.specs.declared.request.Query.TheVariants.{Update, Resolve, Access as AccessQuery}
+use Rattle.vs_types.specs.declared.addresses.access.Mode.{Mode}
+use Rattle.vs_types.specs.declared.addresses.access.Mode.TheVariants.{Supervisor, User}
+use Rattle.vs_types.specs.declared.addresses.access.Access.{Access}
+use Rattle.vs_types.specs.declared.addresses.access.Access.TheVariants.{Read, Write, Fetch}
+use Rattle.vs_types.specs.declared.requests.answer.Answer.{Answer}
+use Rattle.vs_types.specs.declared.requests.answer.Answer.TheVariants as answers
+use Rattle.vs_types.specs.declared.addresses.depth.Depth.{Depth}
+use Rattle.vs_types.specs.declared.addresses.depth.Depth.TheVariants.{Four, Five}
+use Rattle.vs_types.specs.declared.requests.fields.RequestFields.{RequestFields}
+use Rattle.vs_types.specs.declared.requests.op.Action.{Action}
+use Rattle.vs_types.specs.declared.requests.op.Action.TheVariants.{Map, Unmap, Protect}
+use Rattle.vs_types.specs.declared.addresses.page.Page.{Page}
+use Rattle.vs_types.specs.declared.addresses.page.Size.{Size as PageSize}
+use Rattle.vs_types.specs.declared.addresses.page.Size.TheVariants.{K4}
+use Rattle.vs_types.specs.declared.addresses.page.TheConstants.Page.{PHYS_END}
+use Rattle.vs_types.specs.declared.requests.request.Query.{Query}
+use Rattle.vs_types.specs.declared.requests.request.Query.TheVariants.{Update, Resolve, Access as AccessQuery}
 use Rattle.nr_trace.specs.FirstFault.{IsCounts}
 use Rattle.nr_trace.specs.Versions.{KnowsQuery, KnowsAnswer, KnowsTouch}
 use Rattle.nr_trace.specs.Recording.{IsAnswer, IsMemory}
 use Rattle.nr_trace.specs.Spelling.{answer_fields, magic, release_fields, touch_fields, version_word, counts}
-use Rattle.nr_trace.specs.declared.fields.Counts.{Counts}
-use Rattle.nr_trace.specs.declared.version.Version.{Version}
-use Rattle.nr_trace.specs.declared.version.Version.TheVariants.{V1, V2, Segment}
+use Rattle.nr_trace.specs.declared.formats.fields.Counts.{Counts}
+use Rattle.nr_trace.specs.declared.formats.version.Version.{Version}
+use Rattle.nr_trace.specs.declared.formats.version.Version.TheVariants.{V1, V2, Segment}
 use Rattle.nr_trace.proofs.LawsOfUnits.{is_wide, rights_from}
 use Rattle.nr_explain.specs.Fields.{address_fault, answers_of, canonical, depth_of, kinds_of, limited, multiple, number_8}
 use Rattle.nr_explain.specs.Fields.{number_16, physical_fault, rights_fault, rights_of, size_fault, size_of}

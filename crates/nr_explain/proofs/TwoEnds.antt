@@ -9,8 +9,8 @@ use Rattle.std.proofs.lemmas.List.Elements.{All-append}
 use Rattle.nr_trace.specs.Feed.{Fed, Feeds}
 use Rattle.nr_trace.specs.Feed.Fed.{Taken}
 use Rattle.nr_trace.specs.FirstFault.{HasRefusalAs}
-use Rattle.nr_trace.specs.declared.refusal.Refusal.{Refusal}
-use Rattle.nr_trace.specs.declared.version.Form.{Form}
+use Rattle.nr_trace.specs.declared.refusals.refusal.Refusal.{Refusal}
+use Rattle.nr_trace.specs.declared.formats.version.Form.{Form}
 use Rattle.nr_explain.specs.Units.{IsBadUnitAs}
 use Rattle.nr_explain.specs.inside.Ends.{AreEnds, IsFed, IsUnitOf, taken}
 use Rattle.nr_explain.specs.declared.ends.Ends.{Ends}

@@ -3,7 +3,7 @@ use Rattle.std.proofs.Common.{◌≡◌, ℕ, suc, ◌+◌, ◌-◌, ◌^◌, �
 use Rattle.std.proofs.lemmas.List.{length-map}
 use Rattle.nr_trace.specs.Recording.{Recording}
 use Rattle.nr_trace.specs.Orders.{recorded_order}
-use Rattle.nr_trace.specs.declared.fault.Fault.{Fault}
+use Rattle.nr_trace.specs.declared.refusals.fault.Fault.{Fault}
 use Rattle.nr_chain.specs.Bytes.{EndsWith, GoesOnSo}
 use Rattle.nr_explain.specs.Progress.{ChainState, run_in, state_after, sums_in}
 use Rattle.nr_explain.specs.ChainExplanation.{GoesOnTo}

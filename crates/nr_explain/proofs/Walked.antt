@@ -3,9 +3,9 @@ use Rattle.std.proofs.Common.{◌≡◌, ℕ, zero, suc, ◌-◌, ◌<◌, List,
 use Rattle.std.specs.FinMap as finite
 use Rattle.vs_types.specs.Depth.{index_at}
 use Rattle.vs_types.specs.Entry.{meaning}
-use Rattle.vs_types.specs.declared.entry.Meaning.{Meaning}
-use Rattle.vs_types.specs.declared.entry.Meaning.TheVariants as entry
-use Rattle.vs_types.specs.declared.page.Rights.{Rights}
+use Rattle.vs_types.specs.declared.entries.entry.Meaning.{Meaning}
+use Rattle.vs_types.specs.declared.entries.entry.Meaning.TheVariants as entry
+use Rattle.vs_types.specs.declared.addresses.page.Rights.{Rights}
 use Rattle.vs_walk.specs.Memory.{Memory}
 use Rattle.nr_explain.specs.Facts.{behind, entries_read, entry_for, of_frame}
 use Rattle.nr_explain.specs.declared.trace.evidence.TableEntry.{TableEntry}

@@ -11,17 +11,17 @@ use Rattle.nr_trace.specs.Spelling.{SpellsSegment}
 use Rattle.nr_trace.specs.Feed.{EndsSegment, FedSegment, IsWhole}
 use Rattle.nr_trace.specs.Feed.Fed.{Taken}
 use Rattle.nr_trace.specs.Versions.{Follows}
-use Rattle.nr_trace.specs.declared.version.Form.TheVariants as forms
-use Rattle.nr_trace.specs.declared.fault.Fault.{Fault}
+use Rattle.nr_trace.specs.declared.formats.version.Form.TheVariants as forms
+use Rattle.nr_trace.specs.declared.refusals.fault.Fault.{Fault}
 use Rattle.nr_joined.specs.Run.{end_of, IsOrderly}
 use Rattle.nr_joined.proofs.Orderly.{space_of_both}
 use Rattle.nr_touch.specs.Tails.{AreSound, GoesOn, HasIndexes}
-use Rattle.nr_audit.specs.declared.met.Met.{Met}
+use Rattle.nr_audit.specs.declared.histories.met.Met.{Met}
 use Rattle.nr_audit.specs.Verdict.{space_of}
 use Rattle.nr_audit.specs.Faults.{IsFirstAfter, IsSoundAfter}
 use Rattle.nr_audit.specs.Start.{first_space, BeginsRight}
 use Rattle.nr_audit.specs.Segments.{run_after, FitsLayout, FitsPast, IsBehind, IsKept}
-use Rattle.nr_audit.specs.declared.past.Past.{Past}
+use Rattle.nr_audit.specs.declared.histories.past.Past.{Past}
 use Rattle.nr_audit.proofs.Judgements.{begins_of, clean_of}
 use Rattle.nr_chain.specs.inside.Between.{bytes_in}
 use Rattle.nr_chain.proofs.Pieces.{ended}

@@ -7,8 +7,8 @@ use Rattle.std.proofs.lemmas.Option.{slice_get_within}
 use Rattle.vs_types.specs.Page.{bytes_of, covers, IsPage}
 use Rattle.vs_types.specs.Space.{Space, IsSpace, page_at}
 use Rattle.vs_types.specs.Step.{look, look_in_page}
-use Rattle.vs_types.specs.declared.depth.Depth.{Depth}
-use Rattle.vs_types.specs.declared.page.Page.{Page}
+use Rattle.vs_types.specs.declared.addresses.depth.Depth.{Depth}
+use Rattle.vs_types.specs.declared.addresses.page.Page.{Page}
 use Rattle.vs_types.proofs.Pages.{covers_means, same_aligned}
 use Rattle.vs_types.proofs.Spaces.{page_at_means}
 use Rattle.nr_trace.specs.Recording.{Recording}

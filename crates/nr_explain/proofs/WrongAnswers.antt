@@ -2,15 +2,15 @@
 use Rattle.std.proofs.Common.{◌≡◌, ℕ, ◌≤◌, Option, Some, option_and_then, length, take, sym, ap, ◌∙◌}
 use Rattle.std.proofs.lemmas.Option.{none-some, same_Some}
 use Rattle.vs_types.specs.Space.{Space}
-use Rattle.vs_types.specs.declared.answer.Answer.{Answer}
-use Rattle.vs_types.specs.declared.request.Query.{Query}
+use Rattle.vs_types.specs.declared.requests.answer.Answer.{Answer}
+use Rattle.vs_types.specs.declared.requests.request.Query.{Query}
 use Rattle.nr_trace.specs.Recording.{Recording}
 use Rattle.nr_trace.specs.Calls.{Invocation, Response, request_in, request_of}
 use Rattle.nr_trace.specs.Faults.{IsFirstFrom}
 use Rattle.nr_trace.specs.Orders.{answer_in, before, recorded_order, space_from}
-use Rattle.nr_trace.specs.declared.event.Asked.{Asked}
-use Rattle.nr_trace.specs.declared.event.Asked.TheVariants as askeds
-use Rattle.nr_trace.specs.declared.fault.Fault.TheVariants.{WrongAnswer}
+use Rattle.nr_trace.specs.declared.recordings.event.Asked.{Asked}
+use Rattle.nr_trace.specs.declared.recordings.event.Asked.TheVariants as askeds
+use Rattle.nr_trace.specs.declared.refusals.fault.Fault.TheVariants.{WrongAnswer}
 use Rattle.nr_trace.proofs.LawsOfCalls.{answered_stands, ordered_from_request}
 use Rattle.nr_trace.proofs.LawsOfFaults.{clean_before_answers}
 use Rattle.nr_trace.proofs.LawsOfOrder.{space_before}

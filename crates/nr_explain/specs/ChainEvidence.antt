@@ -5,14 +5,14 @@ use Rattle.vs_types.specs.Depth.{levels, IsCanonical}
 use Rattle.vs_types.specs.Page.{bytes_of}
 use Rattle.vs_types.specs.Space.{Space}
 use Rattle.vs_types.specs.Step.{look, look_in_page}
-use Rattle.vs_types.specs.declared.access.Access.{Access}
-use Rattle.vs_types.specs.declared.access.Mode.{Mode}
-use Rattle.vs_types.specs.declared.answer.Answer.{Answer}
-use Rattle.vs_types.specs.declared.answer.Answer.TheVariants.{Done}
-use Rattle.vs_types.specs.declared.depth.Depth.{Depth}
-use Rattle.vs_types.specs.declared.page.Page.{Page}
-use Rattle.vs_types.specs.declared.page.TheConstants.Page.{PHYS_END}
-use Rattle.vs_types.specs.declared.request.Query.TheVariants as queries
+use Rattle.vs_types.specs.declared.addresses.access.Access.{Access}
+use Rattle.vs_types.specs.declared.addresses.access.Mode.{Mode}
+use Rattle.vs_types.specs.declared.requests.answer.Answer.{Answer}
+use Rattle.vs_types.specs.declared.requests.answer.Answer.TheVariants.{Done}
+use Rattle.vs_types.specs.declared.addresses.depth.Depth.{Depth}
+use Rattle.vs_types.specs.declared.addresses.page.Page.{Page}
+use Rattle.vs_types.specs.declared.addresses.page.TheConstants.Page.{PHYS_END}
+use Rattle.vs_types.specs.declared.requests.request.Query.TheVariants as queries
 use Rattle.vs_walk.specs.Differences.{IsStray}
 use Rattle.vs_walk.specs.Dump.{Image}
 use Rattle.vs_walk.specs.Traversal.{found_in}
@@ -20,9 +20,9 @@ use Rattle.vs_walk.specs.Walk.{walk, as_walk}
 use Rattle.nr_trace.specs.Recording.{Recording}
 use Rattle.nr_trace.specs.Faults.{HasDump}
 use Rattle.nr_trace.specs.Orders.{before}
-use Rattle.nr_trace.specs.declared.event.Asked.TheVariants as askeds
-use Rattle.nr_trace.specs.declared.fault.Fault.{Fault}
-use Rattle.nr_trace.specs.declared.fault.Fault.TheVariants as faults
+use Rattle.nr_trace.specs.declared.recordings.event.Asked.TheVariants as askeds
+use Rattle.nr_trace.specs.declared.refusals.fault.Fault.{Fault}
+use Rattle.nr_trace.specs.declared.refusals.fault.Fault.TheVariants as faults
 use Rattle.nr_joined.specs.Run.{Run}
 use Rattle.nr_touch.specs.Releases.{IsLeastReached}
 use Rattle.nr_touch.specs.Tails.{Lingers}

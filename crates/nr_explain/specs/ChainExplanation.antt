@@ -1,19 +1,19 @@
 -- What is said of the bytes of a chain: how much it has, or its first fault and what shows that.
 use Rattle.std.specs.Prelude.{◌≡◌, ℕ, ◌++◌, List, [], ◌∷◌, length, Option, Some, None}
 use Rattle.nr_trace.specs.Recording.{Recording}
-use Rattle.nr_trace.specs.declared.fault.Fault.TheVariants as faults
-use Rattle.nr_trace.specs.declared.fault.Format.TheVariants.{Truncated}
+use Rattle.nr_trace.specs.declared.refusals.fault.Fault.TheVariants as faults
+use Rattle.nr_trace.specs.declared.refusals.fault.Format.TheVariants.{Truncated}
 use Rattle.nr_trace.specs.FirstFault.{HasSegmentFault}
 use Rattle.nr_audit.specs.Met.{HasMet}
 use Rattle.nr_audit.specs.Start.{begins_in}
-use Rattle.nr_audit.specs.declared.met.Met.{Met}
+use Rattle.nr_audit.specs.declared.histories.met.Met.{Met}
 use Rattle.nr_audit.specs.Faults.{IsFirstAfter, IsSoundAfter}
 use Rattle.nr_audit.specs.Start.{first_space}
-use Rattle.nr_trace.specs.declared.fault.Fault.{Fault}
+use Rattle.nr_trace.specs.declared.refusals.fault.Fault.{Fault}
 use Rattle.nr_chain.specs.Bytes.{BeginsWith, EndsWith}
 use Rattle.nr_explain.specs.Progress.{ChainState, ReaderState, began_with, state_after, counts_of, layout_in, run_in, space_in, sums_in, IsSeenOf}
 use Rattle.nr_explain.specs.ChainEvidence.{IsShown, ShowsEarlier}
-use Rattle.nr_trace.specs.declared.version.Form.TheVariants as forms
+use Rattle.nr_trace.specs.declared.formats.version.Form.TheVariants as forms
 use Rattle.nr_explain.specs.Units.{IsBadUnitAs}
 use Rattle.nr_explain.specs.declared.chain.evidence.BadSegment.{BadSegment}
 use Rattle.nr_explain.specs.declared.chain.evidence.SegmentEvidence.{SegmentEvidence}

@@ -4,11 +4,11 @@ use Rattle.vs_types.specs.Access.{fault_code}
 use Rattle.vs_types.specs.Page.{bytes_of}
 use Rattle.vs_types.specs.Space.{Space, no_pages}
 use Rattle.vs_types.specs.Step.{look}
-use Rattle.vs_types.specs.declared.answer.Answer.{Answer}
-use Rattle.vs_types.specs.declared.answer.Answer.TheVariants as answers
+use Rattle.vs_types.specs.declared.requests.answer.Answer.{Answer}
+use Rattle.vs_types.specs.declared.requests.answer.Answer.TheVariants as answers
 use Rattle.nr_trace.specs.Recording.{Recording}
-use Rattle.nr_trace.specs.declared.event.Asked.{Asked}
-use Rattle.nr_trace.specs.declared.event.Asked.TheVariants.{Touch}
+use Rattle.nr_trace.specs.declared.recordings.event.Asked.{Asked}
+use Rattle.nr_trace.specs.declared.recordings.event.Asked.TheVariants.{Touch}
 use Rattle.nr_touch.specs.Touches.{ChangesLook, IsAnsweredBefore, TakesAway}
 use Rattle.nr_audit.specs.Touches.{known_at, known_to}
 use Rattle.nr_explain.specs.Facts.{looks_from, response, IsCallOf, IsFirstReplyTo, IsReplyOf}

@@ -4,8 +4,8 @@ use Rattle.nr_trace.specs.Recording.{Recording}
 use Rattle.nr_trace.specs.Spelling.{Spells}
 use Rattle.nr_trace.specs.Orders.{below}
 use Rattle.nr_trace.specs.Faults.{HasFault, Earlier}
-use Rattle.nr_trace.specs.declared.fault.Fault.{Fault}
-use Rattle.nr_trace.specs.declared.fault.Fault.TheVariants.{PrefixPastLog, PrefixShort, MissingFrame, SharedFrame, ReservedBit, StrayFrame, Differs}
+use Rattle.nr_trace.specs.declared.refusals.fault.Fault.{Fault}
+use Rattle.nr_trace.specs.declared.refusals.fault.Fault.TheVariants.{PrefixPastLog, PrefixShort, MissingFrame, SharedFrame, ReservedBit, StrayFrame, Differs}
 use Rattle.nr_explain.specs.Evidence.{IsEvidence}
 use Rattle.nr_explain.specs.Explanation.{IsExplanationOf}
 use Rattle.nr_explain.specs.declared.trace.evidence.Evidence.TheVariants as evidence

@@ -2,10 +2,10 @@
 use Rattle.std.specs.Prelude.{◌≡◌, ℕ, List}
 use Rattle.nr_trace.specs.Recording.{Recording}
 use Rattle.nr_trace.specs.Spelling.{Spells}
-use Rattle.nr_trace.specs.declared.fault.Fault.{Fault}
-use Rattle.nr_trace.specs.declared.fault.Fault.TheVariants as faults
+use Rattle.nr_trace.specs.declared.refusals.fault.Fault.{Fault}
+use Rattle.nr_trace.specs.declared.refusals.fault.Fault.TheVariants as faults
 use Rattle.nr_audit.specs.Verdict.{IsVerdictOf}
-use Rattle.nr_audit.specs.declared.verdict.Verdict.TheVariants as verdicts
+use Rattle.nr_audit.specs.declared.verdicts.verdict.Verdict.TheVariants as verdicts
 use Rattle.nr_explain.specs.Counts.{IsCountOf}
 use Rattle.nr_explain.specs.Units.{IsBadUnit}
 use Rattle.nr_explain.specs.Evidence.{IsEvidence}

@@ -4,13 +4,13 @@ use Rattle.std.specs.Option.{option_or}
 use Rattle.std.specs.Int.{w16, w32, w64, from_be_bytes}
 use Rattle.vs_types.specs.Depth.{is_canonical, levels}
 use Rattle.vs_types.specs.Page.{bytes_of}
-use Rattle.vs_types.specs.declared.depth.Depth.{Depth}
-use Rattle.vs_types.specs.declared.depth.Depth.TheVariants.{Four, Five}
-use Rattle.vs_types.specs.declared.page.Size.{Size as PageSize}
-use Rattle.vs_types.specs.declared.page.Size.TheVariants.{K4, M2, G1}
-use Rattle.vs_types.specs.declared.page.TheConstants.Page.{PHYS_END}
-use Rattle.nr_trace.specs.declared.fault.Format.{Format}
-use Rattle.nr_trace.specs.declared.fault.Format.TheVariants.{BadEvent}
+use Rattle.vs_types.specs.declared.addresses.depth.Depth.{Depth}
+use Rattle.vs_types.specs.declared.addresses.depth.Depth.TheVariants.{Four, Five}
+use Rattle.vs_types.specs.declared.addresses.page.Size.{Size as PageSize}
+use Rattle.vs_types.specs.declared.addresses.page.Size.TheVariants.{K4, M2, G1}
+use Rattle.vs_types.specs.declared.addresses.page.TheConstants.Page.{PHYS_END}
+use Rattle.nr_trace.specs.declared.refusals.fault.Format.{Format}
+use Rattle.nr_trace.specs.declared.refusals.fault.Format.TheVariants.{BadEvent}
 use Rattle.nr_explain.specs.declared.fields.EventField.{EventField}
 use Rattle.nr_explain.specs.declared.fields.EventField.TheVariants.{Tag, Replica, Thread, Kind, Size, Access, Rights, Mode, Unused, Address, Physical, Answer}
 use Rattle.nr_explain.specs.declared.fields.EventField.TheVariants.{Value}

@@ -6,9 +6,9 @@ use Rattle.vs_types.specs.Config.{Layout}
 use Rattle.vs_walk.specs.Dump.{Image}
 use Rattle.nr_trace.specs.Recording.{Recording}
 use Rattle.nr_trace.specs.Orders.{recorded_order}
-use Rattle.nr_trace.specs.declared.event.Event.{Event}
-use Rattle.nr_trace.specs.declared.event.Event.TheVariants.{Call}
-use Rattle.nr_trace.specs.declared.event.Asked.TheVariants as askeds
+use Rattle.nr_trace.specs.declared.recordings.event.Event.{Event}
+use Rattle.nr_trace.specs.declared.recordings.event.Event.TheVariants.{Call}
+use Rattle.nr_trace.specs.declared.recordings.event.Asked.TheVariants as askeds
 use Rattle.nr_joined.specs.Run.{Run, end_of}
 use Rattle.nr_touch.specs.Tails.{IsTailOfRun}
 use Rattle.nr_touch.specs.declared.touches.tail.Tail.{Tail}
@@ -16,7 +16,7 @@ use Rattle.nr_audit.specs.Segments.{run_after}
 use Rattle.nr_audit.specs.Start.{space_before, start_space}
 use Rattle.nr_chain.specs.Bytes.{layout_before}
 use Rattle.nr_audit.specs.Met.{no_totals, sum_up, totals_with}
-use Rattle.nr_audit.specs.declared.met.Met.{Met}
+use Rattle.nr_audit.specs.declared.histories.met.Met.{Met}
 use Rattle.nr_explain.specs.declared.chain.progress.Sums.{Sums}
 use Rattle.nr_explain.specs.declared.chain.explanation.ChainCounts.{ChainCounts}
 

@@ -3,8 +3,8 @@ use Rattle.std.specs.Prelude.{◌≡◌, ℕ, ◌++◌, List, length, take, Resu
 use Rattle.nr_trace.specs.Recording.{Recording}
 use Rattle.nr_trace.specs.Spelling.{Spells}
 use Rattle.nr_trace.specs.FirstFault.{HasRefusalAs, refusal_at, unit_size}
-use Rattle.nr_trace.specs.declared.version.Form.{Form}
-use Rattle.nr_trace.specs.declared.version.Form.TheVariants as forms
+use Rattle.nr_trace.specs.declared.formats.version.Form.{Form}
+use Rattle.nr_trace.specs.declared.formats.version.Form.TheVariants as forms
 use Rattle.nr_explain.specs.Fields.{field_fault}
 use Rattle.nr_explain.specs.declared.units.TheConstants.{HEADER_BYTES}
 use Rattle.nr_explain.specs.declared.units.BadUnit.{BadUnit}

@@ -3,7 +3,7 @@
 ghost use Rattle.std.specs.Prelude.{◌≡◌, ◌+◌, ◌-◌, ◌≤◌, ◌<◌, ◌^◌, ◌++◌, ℕ, List, [], length, min, take, drop, IfOk, OnOk};
 ghost use Rattle.std.specs.Vec.{vec_len};
 ghost use Rattle.nr_trace.specs.FirstFault.{HasRefusalAs};
-ghost use Rattle.nr_trace.specs.declared.version.Form.{Form};
+ghost use Rattle.nr_trace.specs.declared.formats.version.Form.{Form};
 ghost use Rattle.nr_explain.specs.Units.{IsBadUnitAs};
 ghost use Rattle.nr_explain.specs.inside.Ends.{AreEnds, IsUnitOf};
 

@@ -4,13 +4,13 @@ ghost use Rattle.std.specs.Prelude.{◌≡◌, ◌<◌, ◌-◌, ◌^◌, ◌++�
 ghost use Rattle.nr_trace.specs.Recording.{IsEvent};
 ghost use Rattle.nr_trace.specs.FirstFault.{IsCounts};
 ghost use Rattle.nr_trace.specs.Spelling.{counts, event, magic, version_word};
-ghost use Rattle.nr_trace.specs.declared.event.Event.{Event};
-ghost use Rattle.nr_trace.specs.declared.fields.Counts.{Counts};
-ghost use Rattle.nr_trace.specs.declared.version.Version.{Version};
+ghost use Rattle.nr_trace.specs.declared.recordings.event.Event.{Event};
+ghost use Rattle.nr_trace.specs.declared.formats.fields.Counts.{Counts};
+ghost use Rattle.nr_trace.specs.declared.formats.version.Version.{Version};
 ghost use Rattle.nr_explain.specs.Fields.{event_fault};
 ghost use Rattle.nr_explain.specs.Units.{IsBadUnit};
 ghost use Rattle.nr_explain.specs.declared.units.BadUnit.{BadUnit};
-ghost use Rattle.nr_trace.specs.declared.fault.Fault.{Fault};
+ghost use Rattle.nr_trace.specs.declared.refusals.fault.Fault.{Fault};
 ghost use Rattle.nr_chain.specs.Bytes.{GoesOnSo};
 ghost use Rattle.nr_explain.specs.ChainExplanation.{IsExplanationOfChain};
 ghost use Rattle.nr_explain.specs.declared.chain.evidence.SegmentEvidence.{SegmentEvidence};

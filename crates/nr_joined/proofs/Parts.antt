@@ -10,8 +10,8 @@ use Rattle.vs_types.proofs.Lists.{get_left, get_right}
 use Rattle.nr_trace.specs.Recording.{Recording}
 use Rattle.nr_trace.specs.Calls.{Invocation, made_by, call_of, request_in, unordered_in, operation_in, read_address, request_of, operation_of, address_of}
 use Rattle.nr_trace.specs.Calls.{touch_of, IsCall, IsUpdate, IsRead, Response, reply_in, reply_of, reply_to, IsAnswered, Answers}
-use Rattle.nr_trace.specs.declared.event.Event.{Event}
-use Rattle.nr_trace.specs.declared.event.Event.TheVariants.{Reply}
+use Rattle.nr_trace.specs.declared.recordings.event.Event.{Event}
+use Rattle.nr_trace.specs.declared.recordings.event.Event.TheVariants.{Reply}
 use Rattle.nr_trace.proofs.LawsOfCalls.{answers_from, reply_below, reply_that_answers}
 use Rattle.nr_joined.specs.Joined.{event_behind, joined_traces}
 use Rattle.nr_joined.proofs.Lists.{split_at, of_mapped, some_of_mapped, mapped_some, filter_map-map, none_given, none_of_mapped}

@@ -6,8 +6,8 @@ use Rattle.std.specs.Option.{option_map_or}
 use Rattle.std.specs.List.{cons_option}
 use Rattle.std.proofs.lemmas.Bool.{cases_lt}
 use Rattle.std.proofs.lemmas.Option.{none-some, slice_get-map, slice_get_within}
-use Rattle.vs_types.specs.declared.op.Action.{Action}
-use Rattle.nr_trace.specs.declared.event.Asked.{Asked}
+use Rattle.vs_types.specs.declared.requests.op.Action.{Action}
+use Rattle.nr_trace.specs.declared.recordings.event.Asked.{Asked}
 use Rattle.vs_types.proofs.Lists.{get_left, get_right}
 use Rattle.nr_trace.specs.Recording.{Recording}
 use Rattle.nr_trace.specs.Calls.{operation_of, touch_of, IsOrdered, IsRead, Response, reply_in, reply_of, reply_to}

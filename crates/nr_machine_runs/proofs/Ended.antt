@@ -4,11 +4,11 @@ use Rattle.std.specs.Prelude.{⊤}
 use Rattle.std.proofs.lemmas.Option.{slice_get_within}
 use Rattle.vs_types.specs.Config.{Layout}
 use Rattle.vs_types.specs.Space.{Space}
-use Rattle.vs_types.specs.declared.answer.Answer.{Answer}
+use Rattle.vs_types.specs.declared.requests.answer.Answer.{Answer}
 use Rattle.vs_types.specs.declared.log_entry.LogEntry.{LogEntry}
-use Rattle.nr_trace.specs.declared.event.Event.{Event}
+use Rattle.nr_trace.specs.declared.recordings.event.Event.{Event}
 use Rattle.nr_core.specs.State.{Replica, Thread}
-use Rattle.nr_core.specs.declared.stage.Stage.TheVariants.{Idle, Taken}
+use Rattle.nr_core.specs.declared.states.stage.Stage.TheVariants.{Idle, Taken}
 use Rattle.nr_core.specs.inside.Reached.{At, AreCalls, AreReplies, Behind, Shared}
 use Rattle.nr_core.proofs.reached.Growth.{Grows, HaveCalls, Longer, behind_stays, replies_have_calls}
 use Rattle.nr_machine.specs.declared.words.Update.{Update}

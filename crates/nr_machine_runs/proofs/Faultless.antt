@@ -11,14 +11,14 @@ use Rattle.vs_walk.specs.Dump.{Image}
 use Rattle.nr_trace.specs.Laws.{HasCleanLog, IsFaultless}
 use Rattle.nr_trace.specs.Orders.{FitsOrder, IsLegalOrder, recorded_order}
 use Rattle.nr_trace.specs.Recording.{IsThere, Recording}
-use Rattle.nr_trace.specs.declared.fault.Fault.TheVariants.{ThreadOpen, NoSuchCall, AnsweredTwice, NotAnUpdate, PlacedTwice, NotPlaced, PastLog, Early}
-use Rattle.nr_trace.specs.declared.fault.Fault.TheVariants.{WrongAnswer, PrefixPastLog, PrefixShort, MissingFrame, SharedFrame, ReservedBit, StrayFrame}
-use Rattle.nr_trace.specs.declared.fault.Fault.TheVariants.{Differs}
-use Rattle.nr_trace.specs.declared.version.Version.{Version}
+use Rattle.nr_trace.specs.declared.refusals.fault.Fault.TheVariants.{ThreadOpen, NoSuchCall, AnsweredTwice, NotAnUpdate, PlacedTwice, NotPlaced, PastLog, Early}
+use Rattle.nr_trace.specs.declared.refusals.fault.Fault.TheVariants.{WrongAnswer, PrefixPastLog, PrefixShort, MissingFrame, SharedFrame, ReservedBit, StrayFrame}
+use Rattle.nr_trace.specs.declared.refusals.fault.Fault.TheVariants.{Differs}
+use Rattle.nr_trace.specs.declared.formats.version.Version.{Version}
 use Rattle.nr_trace.proofs.LawsOfDumps.{legal_if_faultless, fits_if_faultless}
 use Rattle.nr_core.specs.State.{Replica, State, Thread}
 use Rattle.nr_trace.proofs.LawsOfLists.{In, distinct_append, in_map, option_distinct}
-use Rattle.nr_core.specs.declared.stage.Collected.{Collected}
+use Rattle.nr_core.specs.declared.states.stage.Collected.{Collected}
 use Rattle.nr_core.specs.inside.Reached.{At, FitsStage, IsReached, IsReplicaOf, calls_of, open_in, shared_in, waiting_in}
 use Rattle.nr_core.proofs.reached.Places.{at_in}
 use Rattle.nr_core.proofs.reached.Growth.{Grows, replies_have_calls, replies_stay}

@@ -1,7 +1,7 @@
 -- Calls whose updates are given to a machine: each once.
 use Rattle.std.proofs.Common.{◌≡◌, ℕ, zero, suc, ◌<◌, Bool, true, false, List, [], ◌∷◌, length, refl, ap, sym, ◌∙◌, arith}
 use Rattle.vs_types.specs.declared.log_entry.LogEntry.{LogEntry}
-use Rattle.nr_trace.specs.declared.event.Event.{Event}
+use Rattle.nr_trace.specs.declared.recordings.event.Event.{Event}
 use Rattle.nr_machine.specs.declared.words.Update.{Update}
 use Rattle.nr_machine.specs.Actor.{update_at}
 use Rattle.nr_machine.specs.Words.{with_at}

@@ -4,10 +4,10 @@ use Rattle.std.proofs.Common.{inr, Some, None, List, [], length, refl, ap, sym, 
 use Rattle.std.specs.Prelude.{slice_get}
 use Rattle.std.proofs.lemmas.Bool.Decides.{nat_tests}
 use Rattle.vs_types.specs.declared.log_entry.LogEntry.{LogEntry}
-use Rattle.vs_types.specs.declared.request.Query.TheVariants.{Update as Updates}
+use Rattle.vs_types.specs.declared.requests.request.Query.TheVariants.{Update as Updates}
 use Rattle.nr_trace.specs.Calls.{Invocation, made_by}
-use Rattle.nr_trace.specs.declared.event.Event.{Event}
-use Rattle.nr_trace.specs.declared.event.Asked.TheVariants as askeds
+use Rattle.nr_trace.specs.declared.recordings.event.Event.{Event}
+use Rattle.nr_trace.specs.declared.recordings.event.Asked.TheVariants as askeds
 use Rattle.nr_core.specs.inside.Reached.{request_made, AreEntries, Behind, call_at}
 use Rattle.nr_core.proofs.reached.Growth.{HaveCalls, Longer, behind_stays, read_stays, read_within, then_from}
 use Rattle.nr_machine.specs.declared.words.Update.{Update}

@@ -7,7 +7,7 @@ use Rattle.vs_types.specs.Config.{Layout}
 use Rattle.vs_types.specs.Space.{Space, no_pages}
 use Rattle.vs_types.specs.Step.{after_all, step}
 use Rattle.vs_types.specs.declared.log_entry.LogEntry.{LogEntry}
-use Rattle.vs_types.specs.declared.op.Action.{Action}
+use Rattle.vs_types.specs.declared.requests.op.Action.{Action}
 use Rattle.vs_types.proofs.Afterwards.{after_all-append}
 use Rattle.nr_core.specs.inside.Reached.{At, space_at}
 use Rattle.nr_core.proofs.reached.Places.{at_end, at_front, at_last, same_front}

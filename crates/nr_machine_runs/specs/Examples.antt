@@ -1,14 +1,14 @@
 -- A run that can be recorded to its end.
 use Rattle.std.specs.Prelude.{List, [], ◌∷◌, ◌++◌, map}
 use Rattle.vs_types.specs.Config.{Layout}
-use Rattle.vs_types.specs.declared.answer.Answer.TheVariants.{NotMapped}
-use Rattle.vs_types.specs.declared.depth.Depth.TheVariants.{Four}
+use Rattle.vs_types.specs.declared.requests.answer.Answer.TheVariants.{NotMapped}
+use Rattle.vs_types.specs.declared.addresses.depth.Depth.TheVariants.{Four}
 use Rattle.vs_types.specs.declared.log_entry.LogEntry.{LogEntry}
-use Rattle.vs_types.specs.declared.op.Action.TheVariants.{Unmap}
-use Rattle.vs_types.specs.declared.request.Query.TheVariants as queries
-use Rattle.nr_trace.specs.declared.event.Event.{Event}
-use Rattle.nr_trace.specs.declared.event.Event.TheVariants as events
-use Rattle.nr_trace.specs.declared.event.Asked.TheVariants as askeds
+use Rattle.vs_types.specs.declared.requests.op.Action.TheVariants.{Unmap}
+use Rattle.vs_types.specs.declared.requests.request.Query.TheVariants as queries
+use Rattle.nr_trace.specs.declared.recordings.event.Event.{Event}
+use Rattle.nr_trace.specs.declared.recordings.event.Event.TheVariants as events
+use Rattle.nr_trace.specs.declared.recordings.event.Asked.TheVariants as askeds
 use Rattle.nr_machine.specs.declared.words.Update.{Update}
 use Rattle.nr_machine.specs.World.{Act}
 use Rattle.nr_machine.specs.World.Act.{Begins}

@@ -1,12 +1,12 @@
 -- The history of the log of `nr_ring` that a schedule makes, where each update means an entry of that log.
 use Rattle.std.specs.Prelude.{◌≡◌, ℕ, zero, suc, ◌<◌, ◌≤◌, ◌==◌, nat_lt, if◌then◌else◌, List, [], ◌∷◌, ◌++◌, map, length, All, ⊤}
 use Rattle.vs_types.specs.LogEntry.{IsLogEntry}
-use Rattle.vs_types.specs.declared.depth.Depth.{Depth}
+use Rattle.vs_types.specs.declared.addresses.depth.Depth.{Depth}
 use Rattle.vs_types.specs.declared.log_entry.LogEntry.{LogEntry}
 use Rattle.nr_ring.specs.LogHistory.{Log, local_of}
-use Rattle.nr_ring.specs.declared.words.TheConstants.{MOST_PLACES}
-use Rattle.nr_ring.specs.declared.log_event.LogEvent.{LogEvent}
-use Rattle.nr_ring.specs.declared.log_event.LogEvent.TheVariants.{Append, Advance}
+use Rattle.nr_ring.specs.declared.cells.words.TheConstants.{MOST_PLACES}
+use Rattle.nr_ring.specs.declared.ring.log_event.LogEvent.{LogEvent}
+use Rattle.nr_ring.specs.declared.ring.log_event.LogEvent.TheVariants.{Append, Advance}
 use Rattle.nr_machine.specs.declared.words.Operation.{Operation}
 use Rattle.nr_machine.specs.declared.words.Operation.TheVariants.{Store, Exchange}
 use Rattle.nr_machine.specs.declared.words.Word.TheVariants.{Local}

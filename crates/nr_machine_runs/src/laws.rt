@@ -1,7 +1,7 @@
 //! What holds of every schedule of single operations. Each function does nothing: its clauses say what holds.
 
 ghost use Rattle.std.specs.Prelude.{◌≡◌, ℕ, List, Some, slice_get};
-ghost use Rattle.vs_types.specs.declared.depth.Depth.{Depth};
+ghost use Rattle.vs_types.specs.declared.addresses.depth.Depth.{Depth};
 ghost use Rattle.vs_types.specs.declared.log_entry.LogEntry.{LogEntry};
 ghost use Rattle.vs_walk.specs.Dump.{Image};
 ghost use Rattle.nr_trace.specs.Laws.{IsFaultless};

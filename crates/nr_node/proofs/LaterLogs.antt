@@ -6,14 +6,14 @@ use Rattle.std.proofs.lemmas.Option.{slice_get_within, get_or_from_slice_get}
 use Rattle.vs_types.specs.LogEntry.{IsLogEntry}
 use Rattle.vs_types.specs.Space.{Space, IsSpace, no_pages}
 use Rattle.vs_types.specs.Step.{step}
-use Rattle.vs_types.specs.declared.depth.Depth.{Depth}
+use Rattle.vs_types.specs.declared.addresses.depth.Depth.{Depth}
 use Rattle.vs_types.specs.declared.log_entry.LogEntry.{LogEntry}
-use Rattle.vs_types.specs.declared.op.Action.{Action}
+use Rattle.vs_types.specs.declared.requests.op.Action.{Action}
 use Rattle.vs_types.proofs.Spaces.{no_pages_space}
 use Rattle.vs_types.proofs.Steps.{step_space}
 use Rattle.nr_ring.specs.Laws.{HasGoneOn}
 use Rattle.nr_ring.specs.LogHistory.{Log, IsLogHistory, log_after, tail}
-use Rattle.nr_ring.specs.declared.log_event.LogEvent.{LogEvent}
+use Rattle.nr_ring.specs.declared.ring.log_event.LogEvent.{LogEvent}
 use Rattle.nr_ring.proofs.Fetches.{history_entries}
 use Rattle.nr_node.specs.Spaces.{answer_at, space_at, space_of}
 use Rattle.nr_node.proofs.Nodes.{slice_more, take_still}

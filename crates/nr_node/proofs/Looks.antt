@@ -5,14 +5,14 @@ use Rattle.std.proofs.lemmas.List.{drop-drop, length-drop}
 use Rattle.std.proofs.lemmas.List.Elements.{All-drop}
 use Rattle.std.proofs.lemmas.Bool.{cases_eq}
 use Rattle.vs_types.specs.LogEntry.{IsLogEntry}
-use Rattle.vs_types.specs.declared.depth.Depth.{Depth}
+use Rattle.vs_types.specs.declared.addresses.depth.Depth.{Depth}
 use Rattle.vs_types.specs.declared.log_entry.LogEntry.{LogEntry}
 use Rattle.nr_ring.specs.Calls.{HasLooked, HasTaken}
 use Rattle.nr_ring.specs.Entries.{HasTakenAll, to_take}
 use Rattle.nr_ring.specs.LogHistory.{IsLogHistory, local_of, log_after, tail}
 use Rattle.nr_ring.specs.Laws.{HasGoneOn, FitsTheRing}
 use Rattle.nr_ring.specs.View.{HasSeenAdvances}
-use Rattle.nr_ring.specs.declared.view.View.{View}
+use Rattle.nr_ring.specs.declared.ring.view.View.{View}
 use Rattle.nr_ring.proofs.Fetches.{history_entries}
 use Rattle.nr_ring.proofs.Histories.{beginning_goes_on, history_fits, local_since}
 use Rattle.nr_ring.proofs.OwnTails.{advance_entries, advance_sets}

@@ -7,7 +7,7 @@ use Rattle.std.proofs.lemmas.List.{drop-append-le, length-drop}
 use Rattle.std.proofs.lemmas.Option.{slice_get-map}
 use Rattle.vs_types.specs.LogEntry.{IsLogEntry}
 use Rattle.vs_types.specs.Operation.{IsAction}
-use Rattle.vs_types.specs.declared.depth.Depth.{Depth}
+use Rattle.vs_types.specs.declared.addresses.depth.Depth.{Depth}
 use Rattle.vs_types.specs.declared.limits.TheConstants.{CALLS}
 use Rattle.vs_types.specs.declared.log_entry.LogEntry.{LogEntry}
 use Rattle.vs_types.proofs.Lists.{get_right}
@@ -15,8 +15,8 @@ use Rattle.nr_ring.specs.Calls.{with_event}
 use Rattle.nr_ring.specs.Entries.{HasAppended, HasAppendedAndTaken, HasTakenAll}
 use Rattle.nr_ring.specs.LogHistory.{Log, local_of, log_after, log_after_event, new_log, tail}
 use Rattle.nr_ring.specs.Pass.{Known}
-use Rattle.nr_ring.specs.declared.log_event.LogEvent.TheVariants.{Append}
-use Rattle.nr_ring.specs.declared.view.View.{View}
+use Rattle.nr_ring.specs.declared.ring.log_event.LogEvent.TheVariants.{Append}
+use Rattle.nr_ring.specs.declared.ring.view.View.{View}
 use Rattle.nr_ring.proofs.Views.{after_one_more}
 use Rattle.nr_slots.specs.Updates.{Waiting}
 use Rattle.nr_node.specs.Calls.{HasPutAndCaughtUp, entries_of, entry_of}

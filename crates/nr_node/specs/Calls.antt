@@ -1,12 +1,12 @@
 -- What the calls of a node answer.
 use Rattle.std.specs.Prelude.{◌≡◌, ◌≢◌, ℕ, ◌+◌, ◌≤◌, List, [], ◌∷◌, All, Option, Some, None, length, map, slice_get}
-use Rattle.vs_types.specs.declared.answer.Answer.{Answer}
-use Rattle.vs_types.specs.declared.depth.Depth.{Depth}
+use Rattle.vs_types.specs.declared.requests.answer.Answer.{Answer}
+use Rattle.vs_types.specs.declared.addresses.depth.Depth.{Depth}
 use Rattle.vs_types.specs.declared.log_entry.LogEntry.{LogEntry}
 use Rattle.nr_ring.specs.LogHistory.{Log, tail, log_after}
 use Rattle.nr_ring.specs.Calls.{HasLooked, HasTaken}
 use Rattle.nr_ring.specs.Entries.{HasAppended}
-use Rattle.nr_ring.specs.declared.view.View.{View}
+use Rattle.nr_ring.specs.declared.ring.view.View.{View}
 use Rattle.nr_slots.specs.Updates.{Answered, Waiting}
 use Rattle.nr_node.specs.Spaces.{answer_at}
 use Rattle.nr_node.specs.Node.{NodeState, StandFrom, log_of}

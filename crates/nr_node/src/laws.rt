@@ -5,14 +5,14 @@ ghost use Rattle.vs_types.specs.Operation.{IsAction};
 ghost use Rattle.vs_types.specs.Space as spaces;
 ghost use Rattle.vs_types.specs.Space.{IsSpace, table_count};
 ghost use Rattle.vs_types.specs.Step.{step};
-ghost use Rattle.vs_types.specs.declared.depth.Depth.{Depth};
+ghost use Rattle.vs_types.specs.declared.addresses.depth.Depth.{Depth};
 ghost use Rattle.vs_types.specs.declared.limits.TheConstants.{RING, TABLES};
 ghost use Rattle.vs_types.specs.declared.log_entry.LogEntry.{LogEntry};
-ghost use Rattle.vs_types.specs.declared.op.Action.{Action};
+ghost use Rattle.vs_types.specs.declared.requests.op.Action.{Action};
 ghost use Rattle.vs_space.specs.Table.{IsTableOf};
 ghost use Rattle.nr_ring.specs.Laws.{HasGoneOn};
 ghost use Rattle.nr_ring.specs.LogHistory.{Log, IsLogHistory, log_after, tail};
-ghost use Rattle.nr_ring.specs.declared.log_event.LogEvent.{LogEvent};
+ghost use Rattle.nr_ring.specs.declared.ring.log_event.LogEvent.{LogEvent};
 ghost use Rattle.nr_node.specs.Spaces.{answer_at, space_at};
 
 use arrayvec::ArrayVec;

@@ -11,7 +11,7 @@ ghost use Rattle.vs_types.specs.declared.limits.TheConstants.{TABLES};
 ghost use Rattle.vs_types.specs.declared.log_entry.LogEntry.{LogEntry};
 ghost use Rattle.vs_walk.specs.Walk.{TranslatesAs};
 ghost use Rattle.nr_ring.specs.LogHistory.{log_after};
-ghost use Rattle.nr_ring.specs.declared.words.TheConstants.{MOST_PLACES};
+ghost use Rattle.nr_ring.specs.declared.cells.words.TheConstants.{MOST_PLACES};
 ghost use Rattle.nr_slots.specs.Updates.{Answered};
 ghost use Rattle.nr_node.specs.Calls.{IsAnsweredIn, IsOwnPlace, LacksUpdate, answered_from, answers_of, entries_of};
 ghost use Rattle.nr_node.specs.Node.{StandFrom};

@@ -23,7 +23,7 @@ const _: () = prove!(size_of::<Told>() == 24);
 
 impl Model for Told {
     ghost use Rattle.vs_types.specs.LogEntry.{SpellsEntry};
-    ghost use Rattle.vs_types.specs.declared.depth.Depth.TheVariants.{Five};
+    ghost use Rattle.vs_types.specs.declared.addresses.depth.Depth.TheVariants.{Five};
     ghost use Rattle.nr_node.specs.inside.Told.{Told, entry_kept, entry_words, told_in};
 
     ghost Value = { Told };

@@ -1,10 +1,10 @@
 -- Works of one node that can be done to the end of a call, with whatever plan is right for its entry.
 use Rattle.std.specs.Prelude.{ℕ, List, [], ◌∷◌, Option}
 use Rattle.vs_types.specs.Space.{Space}
-use Rattle.vs_types.specs.declared.answer.Answer.{Answer}
+use Rattle.vs_types.specs.declared.requests.answer.Answer.{Answer}
 use Rattle.vs_walk.specs.Memory.{Memory}
-use Rattle.vs_plan.specs.declared.plan.Plan.{Plan}
-use Rattle.vs_plan.specs.declared.request.Request.{Request}
+use Rattle.vs_plan.specs.declared.plans.plan.Plan.{Plan}
+use Rattle.vs_plan.specs.declared.plans.request.Request.{Request}
 use Rattle.vs_plan.specs.Processor.{Moment}
 use Rattle.nr_machine.specs.declared.words.Operation.TheVariants.{Load, Store, Exchange, Max}
 use Rattle.nr_machine.specs.declared.words.Word.TheVariants.{Head, Completed, Local, Done, First, Second}

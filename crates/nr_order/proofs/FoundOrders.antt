@@ -2,11 +2,11 @@
 use Rattle.std.proofs.Common.{◌≡◌, ℕ, List, None, subst}
 use Rattle.nr_trace.specs.Recording.{Recording}
 use Rattle.nr_trace.specs.Spelling.{Spells}
-use Rattle.nr_trace.specs.declared.fault.Fault.{Fault}
-use Rattle.nr_trace.specs.declared.fault.Fault.TheVariants.{Format}
+use Rattle.nr_trace.specs.declared.refusals.fault.Fault.{Fault}
+use Rattle.nr_trace.specs.declared.refusals.fault.Fault.TheVariants.{Format}
 use Rattle.nr_audit.specs.Segments.{IsRightAfter}
 use Rattle.nr_audit.specs.Verdict.{IsVerdictOn}
-use Rattle.nr_audit.specs.declared.verdict.Verdict.TheVariants.{Yes}
+use Rattle.nr_audit.specs.declared.verdicts.verdict.Verdict.TheVariants.{Yes}
 use Rattle.nr_audit.proofs.PartsOfVerdicts.{is_trace}
 use Rattle.nr_audit.proofs.Traces.{no_start}
 use Rattle.nr_order.specs.Finding.{AreRightAsOrdered, IsFindingOf, IsFindingOn, IsFirstAlone, IsFirstByItself, IsOrderedOf}

@@ -10,8 +10,8 @@ use Rattle.vs_types.specs.Config.{Layout}
 use Rattle.vs_walk.specs.Dump.{Image}
 use Rattle.nr_trace.specs.Recording.{Recording}
 use Rattle.nr_trace.specs.Orders.{updates}
-use Rattle.nr_trace.specs.declared.event.Event.{Event}
-use Rattle.nr_trace.specs.declared.version.Version.{Version}
+use Rattle.nr_trace.specs.declared.recordings.event.Event.{Event}
+use Rattle.nr_trace.specs.declared.formats.version.Version.{Version}
 use Rattle.nr_order.specs.WithOrder.{placed_by, with_order}
 use Rattle.nr_order.specs.inside.Counted.{AreCountedFrom}
 use Rattle.nr_order.proofs.Counting.{count_take, counted_more}

@@ -10,8 +10,8 @@ use Rattle.nr_trace.specs.Recording.{Recording}
 use Rattle.nr_trace.specs.Calls.{Invocation, made_by, call_of, request_in, operation_in, read_address, request_of, operation_of, address_of}
 use Rattle.nr_trace.specs.Calls.{IsCall, IsUpdate, IsRead, IsOrdered, Response, reply_in, reply_of, reply_to, IsAnswered, Answers, Precedes}
 use Rattle.nr_trace.specs.Orders.{updates, operations, space_from}
-use Rattle.nr_trace.specs.declared.event.Event.{Event}
-use Rattle.nr_trace.specs.declared.event.Event.TheVariants.{Reply}
+use Rattle.nr_trace.specs.declared.recordings.event.Event.{Event}
+use Rattle.nr_trace.specs.declared.recordings.event.Event.TheVariants.{Reply}
 use Rattle.nr_trace.proofs.LawsOfCalls.{answers_from, reply_that_answers}
 use Rattle.nr_joined.proofs.Lists.{filter_same, filter_map_same, filter_map-map, of_mapped, some_of_mapped, mapped_some}
 use Rattle.nr_order.specs.WithOrder.{placed_by, updates_before, with_order}

@@ -2,8 +2,8 @@
 use Rattle.std.specs.Prelude.{ℕ, List, length, map}
 use Rattle.nr_trace.specs.Recording.{Recording}
 use Rattle.nr_trace.specs.Orders.{before, updates}
-use Rattle.nr_trace.specs.declared.event.Event.{Event}
-use Rattle.nr_trace.specs.declared.event.Event.TheVariants.{Reply}
+use Rattle.nr_trace.specs.declared.recordings.event.Event.{Event}
+use Rattle.nr_trace.specs.declared.recordings.event.Event.TheVariants.{Reply}
 
 -- how many updates come before a call in an order: of an update, that is its place
 abbrev pub updates_before : Recording → List ℕ → ℕ → ℕ

@@ -15,10 +15,10 @@ use native.Mathlib.Decide.{dec_le, ℕ_discrete}
 use Rattle.vs_types.specs.Config.{Layout}
 use Rattle.nr_trace.proofs.LawsOfLists.{All-unmap}
 use Rattle.nr_trace.specs.Recording.{IsEvent}
-use Rattle.nr_trace.specs.declared.event.Event.{Event}
-use Rattle.nr_trace.specs.declared.event.Event.TheVariants.{Call, Reply}
-use Rattle.nr_trace.specs.declared.event.Asked.TheVariants as askeds
-use Rattle.nr_trace.specs.declared.version.Version.TheVariants.{V2}
+use Rattle.nr_trace.specs.declared.recordings.event.Event.{Event}
+use Rattle.nr_trace.specs.declared.recordings.event.Event.TheVariants.{Call, Reply}
+use Rattle.nr_trace.specs.declared.recordings.event.Asked.TheVariants as askeds
+use Rattle.nr_trace.specs.declared.formats.version.Version.TheVariants.{V2}
 use Rattle.nr_record.specs.Events.{AreEventsOf, HasNotes, caller, events_of, is_of, thread_of}
 use Rattle.nr_record.specs.Pen.{AreAllPens, ClockId, PenState, call_by, stamped, stamps_of}
 use Rattle.nr_record.specs.Stamps.{AreBelow, Rise, once_below, times}

@@ -8,12 +8,12 @@ use Rattle.vs_types.specs.declared.limits.TheConstants.{CALLS, FRAMES, LOG_PLACE
 use Rattle.vs_walk.specs.Dump.{Image}
 use Rattle.nr_trace.specs.Parts.{HasFrames, IsFirstOut, IsPartsFault, LacksFrames}
 use Rattle.nr_trace.specs.Recording.{Recording, IsEvent}
-use Rattle.nr_trace.specs.declared.event.Event.{Event}
-use Rattle.nr_trace.specs.declared.event.Event.TheVariants.{Call, Reply}
-use Rattle.nr_trace.specs.declared.event.Asked.TheVariants as askeds
-use Rattle.nr_trace.specs.declared.fault.Format.{Format}
-use Rattle.nr_trace.specs.declared.fault.Format.TheVariants.{Truncated, BadMagic, BadVersion, BadCount, BadChain, BadStart, BadEvent, BadFrame, Trailing}
-use Rattle.nr_trace.specs.declared.version.Version.TheVariants.{V2, Segment}
+use Rattle.nr_trace.specs.declared.recordings.event.Event.{Event}
+use Rattle.nr_trace.specs.declared.recordings.event.Event.TheVariants.{Call, Reply}
+use Rattle.nr_trace.specs.declared.recordings.event.Asked.TheVariants as askeds
+use Rattle.nr_trace.specs.declared.refusals.fault.Format.{Format}
+use Rattle.nr_trace.specs.declared.refusals.fault.Format.TheVariants.{Truncated, BadMagic, BadVersion, BadCount, BadChain, BadStart, BadEvent, BadFrame, Trailing}
+use Rattle.nr_trace.specs.declared.formats.version.Version.TheVariants.{V2, Segment}
 use Rattle.nr_trace.proofs.Images.{good_counts}
 
 -- what version 2 knows, a segment knows

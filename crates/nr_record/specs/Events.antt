@@ -1,8 +1,8 @@
 -- What the events of a finished run are.
 use Rattle.std.specs.Prelude.{◌≡◌, ℕ, ◌==◌, List, All, Bool, false, Option, None, Some, filter, flat_map, length, map, option_and_then, slice_get}
 use Rattle.std.specs.Option.{option_map_or}
-use Rattle.nr_trace.specs.declared.event.Event.{Event}
-use Rattle.nr_trace.specs.declared.event.Event.TheVariants.{Call, Reply}
+use Rattle.nr_trace.specs.declared.recordings.event.Event.{Event}
+use Rattle.nr_trace.specs.declared.recordings.event.Event.TheVariants.{Call, Reply}
 use Rattle.nr_record.specs.Pen.{PenState, stamps_of}
 use Rattle.nr_record.specs.Stamps.{AreBelow, Rise}
 

@@ -2,7 +2,7 @@
 -- step, which are making it with its first seat, splitting a seat, drawing, joining two seats, and closing.
 use Rattle.std.specs.Prelude.{◌≡◌, ℕ, ◌+◌, ◌-◌, ◌*◌, ◌<◌, ◌≤◌, List, [], ◌∷◌, ◌++◌, All, length, slice_index}
 use Rattle.std.specs.List.{sum_by}
-use Rattle.vs_types.specs.declared.depth.Depth.TheVariants.{Four}
+use Rattle.vs_types.specs.declared.addresses.depth.Depth.TheVariants.{Four}
 use Rattle.vs_types.specs.declared.limits.TheConstants.{CALLS, LOG_PLACES}
 use Rattle.nr_record.specs.Stamps.{times, once_below}
 use Rattle.nr_record.specs.declared.view.Plan.{Plan}

@@ -5,7 +5,7 @@ ghost use Rattle.vs_types.specs.declared.limits.TheConstants.{CALLS, LOG_PLACES}
 ghost use Rattle.nr_trace.specs.Parts.{HasFrames};
 ghost use Rattle.nr_trace.specs.Recording.{IsEvent};
 ghost use Rattle.nr_trace.specs.Versions.{FitsFirst, IsVersionOf};
-ghost use Rattle.nr_trace.specs.declared.version.Version.TheVariants.{V1, V2, Segment};
+ghost use Rattle.nr_trace.specs.declared.formats.version.Version.TheVariants.{V1, V2, Segment};
 ghost use Rattle.nr_record.specs.Events.{AreEventsOf};
 ghost use Rattle.nr_record.specs.Pen.{AreAllPens, stamps_of};
 ghost use Rattle.nr_record.specs.Stamps.{AreBelow};

@@ -4,7 +4,7 @@ ghost use Rattle.vs_types.specs.Config.{Layout};
 ghost use Rattle.vs_types.specs.Query.{IsQuery};
 ghost use Rattle.vs_types.specs.declared.limits.TheConstants.{CALLS, LOG_PLACES};
 ghost use Rattle.nr_trace.specs.Recording.{IsEvent};
-ghost use Rattle.nr_trace.specs.declared.version.Version.TheVariants.{V2};
+ghost use Rattle.nr_trace.specs.declared.formats.version.Version.TheVariants.{V2};
 ghost use Rattle.nr_record.specs.Pen.{calls_in, clock_of, new_pen, with_call, with_reply};
 
 use crate::clock::Clock;

@@ -5,13 +5,13 @@ use Rattle.std.specs.List.{AllZip}
 use Rattle.std.proofs.lemmas.List.{drop_all, length-drop, length-map, take_all}
 use Rattle.std.proofs.lemmas.List.Elements.{All-map}
 use Rattle.vs_types.specs.Config.{Layout}
-use Rattle.vs_types.specs.declared.depth.Depth.{Depth}
+use Rattle.vs_types.specs.declared.addresses.depth.Depth.{Depth}
 use Rattle.vs_types.specs.declared.log_entry.LogEntry.{LogEntry}
 use Rattle.vs_walk.specs.Dump.{Image}
 use Rattle.nr_ring.specs.LogHistory.{Log, IsLogHistory, completed, local_of, log_after, tail}
 use Rattle.nr_ring.specs.Pass.{Known, TableId}
 use Rattle.nr_ring.specs.View.{StartsWith}
-use Rattle.nr_ring.specs.declared.log_event.LogEvent.{LogEvent}
+use Rattle.nr_ring.specs.declared.ring.log_event.LogEvent.{LogEvent}
 use Rattle.nr_ring.proofs.Histories.{beginning_goes_on, history_fits, tail_rises}
 use Rattle.nr_ring.proofs.LocalTails.{below_greatest, greatest_least}
 use Rattle.nr_slots.specs.Updates.{Waiting}

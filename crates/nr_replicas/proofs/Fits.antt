@@ -5,11 +5,11 @@ use Rattle.std.proofs.lemmas.Grind.{not_there}
 use Rattle.vs_types.specs.Depth.{is_canonical}
 use Rattle.vs_types.specs.Operation.{IsAction, IsBase}
 use Rattle.vs_types.specs.Page.{IsPage, bytes_of}
-use Rattle.vs_types.specs.declared.depth.Depth.{Depth}
-use Rattle.vs_types.specs.declared.op.Action.{Action}
-use Rattle.vs_types.specs.declared.op.Action.TheVariants.{Map, Unmap, Protect}
-use Rattle.vs_types.specs.declared.page.Page.{Page}
-use Rattle.vs_types.specs.declared.page.TheConstants.Page.{PHYS_END}
+use Rattle.vs_types.specs.declared.addresses.depth.Depth.{Depth}
+use Rattle.vs_types.specs.declared.requests.op.Action.{Action}
+use Rattle.vs_types.specs.declared.requests.op.Action.TheVariants.{Map, Unmap, Protect}
+use Rattle.vs_types.specs.declared.addresses.page.Page.{Page}
+use Rattle.vs_types.specs.declared.addresses.page.TheConstants.Page.{PHYS_END}
 
 le_from : {A : Type 0} (m n : ℕ) → ∥ A ∥₁ → (A → m ≤ n) → m ≤ n
 le_from m n a so = elim (cases_lt n m) [ inl below ↦ absurd (not_there a (λ x. omega (arith, so x))) | inr above ↦ above ]

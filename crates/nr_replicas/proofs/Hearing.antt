@@ -1,11 +1,11 @@
 -- Passes that hear of more, one time after another.
 use Rattle.std.proofs.Common.{ℕ, List, All, get_or, subst, ◌∙◌}
-use Rattle.vs_types.specs.declared.depth.Depth.{Depth}
+use Rattle.vs_types.specs.declared.addresses.depth.Depth.{Depth}
 use Rattle.nr_ring.specs.Calls.{HasLooked}
 use Rattle.nr_ring.specs.Laws.{HasGoneOn}
 use Rattle.nr_ring.specs.LogHistory.{log_after}
 use Rattle.nr_ring.specs.View.{HasSeenAdvances}
-use Rattle.nr_ring.specs.declared.view.View.{View}
+use Rattle.nr_ring.specs.declared.ring.view.View.{View}
 use Rattle.nr_ring.proofs.Appends.{begins, no_advances}
 use Rattle.nr_ring.proofs.Histories.{beginning_goes_on}
 use Rattle.nr_replicas.specs.Replicas.{HasHeard}

@@ -2,17 +2,17 @@
 use Rattle.std.proofs.Common.{◌≡◌, ℕ, ap, sym, subst, ◌∙◌, arith}
 use Rattle.std.proofs.lemmas.Option.{slice_get_within}
 use Rattle.vs_types.specs.Space.{Space}
-use Rattle.vs_types.specs.declared.answer.Answer.{Answer}
-use Rattle.vs_types.specs.declared.depth.Depth.{Depth}
+use Rattle.vs_types.specs.declared.requests.answer.Answer.{Answer}
+use Rattle.vs_types.specs.declared.addresses.depth.Depth.{Depth}
 use Rattle.vs_types.specs.declared.log_entry.LogEntry.{LogEntry}
-use Rattle.vs_types.specs.declared.op.Op.{Op}
+use Rattle.vs_types.specs.declared.requests.op.Op.{Op}
 use Rattle.nr_ring.specs.Calls.{HasLooked, copy_of, joint_view}
 use Rattle.nr_ring.specs.Laws.{HasGoneOn}
 use Rattle.nr_ring.specs.LogHistory.{Log, log_after, tail}
 use Rattle.nr_ring.specs.Pass.{tails_of}
 use Rattle.nr_ring.specs.View.{StartsWith}
-use Rattle.nr_ring.specs.declared.tails.Tails.{Tails}
-use Rattle.nr_ring.specs.declared.view.View.{View}
+use Rattle.nr_ring.specs.declared.ring.tails.Tails.{Tails}
+use Rattle.nr_ring.specs.declared.ring.view.View.{View}
 use Rattle.nr_ring.proofs.Histories.{beginning_goes_on, tail_rises}
 use Rattle.nr_node.proofs.LaterLogs.{same_answer, same_entry, same_space}
 use Rattle.nr_replicas.specs.Replicas.{HasHeard, IsAnsweredAt, IsReadAt}

@@ -1,7 +1,7 @@
 -- What the calls of the replicas answer.
 use Rattle.std.specs.Prelude.{◌≡◌, ℕ, ◌-◌, ◌<◌, ◌≤◌, [], All, Some, slice_get, ⊤}
-use Rattle.vs_types.specs.declared.answer.Answer.{Answer}
-use Rattle.vs_types.specs.declared.depth.Depth.{Depth}
+use Rattle.vs_types.specs.declared.requests.answer.Answer.{Answer}
+use Rattle.vs_types.specs.declared.addresses.depth.Depth.{Depth}
 use Rattle.vs_types.specs.declared.log_entry.LogEntry.{LogEntry}
 use Rattle.vs_types.specs.Config.{Layout}
 use Rattle.vs_types.specs.declared.limits.TheConstants.{LOG_PLACES, RING}
@@ -9,7 +9,7 @@ use Rattle.vs_types.specs.Space.{Space}
 use Rattle.nr_ring.specs.LogHistory.{Log, IsLogHistory, tail}
 use Rattle.nr_ring.specs.Pass.{TableId}
 use Rattle.nr_ring.specs.View.{HasSeenAdvances, StartsWith}
-use Rattle.nr_ring.specs.declared.view.View.{View}
+use Rattle.nr_ring.specs.declared.ring.view.View.{View}
 use Rattle.nr_node.specs.Spaces.{answer_at, space_at}
 use Rattle.nr_replicas.specs.declared.update_fault.UpdateFault.{UpdateFault}
 use Rattle.nr_replicas.specs.declared.update_fault.UpdateFault.TheVariants.{Occupied, Ended, Stopped}

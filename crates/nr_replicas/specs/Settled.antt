@@ -2,14 +2,14 @@
 use Rattle.std.specs.Prelude.{◌≡◌, ℕ, ◌+◌, ◌≤◌, List, All, Some, drop, length, map, slice_get}
 use Rattle.std.specs.FinMap as finite
 use Rattle.vs_types.specs.Space.{table_count}
-use Rattle.vs_types.specs.declared.depth.Depth.{Depth}
+use Rattle.vs_types.specs.declared.addresses.depth.Depth.{Depth}
 use Rattle.vs_types.specs.declared.limits.TheConstants.{TABLES}
 use Rattle.vs_walk.specs.Dump.{Image}
 use Rattle.vs_walk.specs.Walk.{TranslatesAs}
 use Rattle.nr_ring.specs.LogHistory.{Log, IsLogHistory, completed, local_of, log_after, tail}
 use Rattle.nr_ring.specs.Pass.{Known}
 use Rattle.nr_ring.specs.View.{StartsWith}
-use Rattle.nr_ring.specs.declared.log_event.LogEvent.{LogEvent}
+use Rattle.nr_ring.specs.declared.ring.log_event.LogEvent.{LogEvent}
 use Rattle.nr_node.specs.Spaces.{space_at}
 
 -- a dump of a replica, whose entries are counted from this place on: a page table that translates as the space after all entries that it

@@ -4,7 +4,7 @@ ghost use Rattle.std.specs.Prelude.{◌≡◌, ◌-◌, ◌≤◌, ◌<◌, IfEr
 ghost use Rattle.vs_types.specs.declared.limits.TheConstants.{LOG_PLACES};
 ghost use Rattle.vs_types.specs.Depth.{IsCanonical};
 ghost use Rattle.nr_ring.specs.LogHistory.{log_after, tail};
-ghost use Rattle.nr_ring.specs.declared.tails.AppendFault.TheVariants.{LogEnded};
+ghost use Rattle.nr_ring.specs.declared.ring.tails.AppendFault.TheVariants.{LogEnded};
 ghost use Rattle.nr_node.specs.Calls.{IsAnsweredIn};
 ghost use Rattle.nr_node.specs.Node.{log_of, node_space};
 ghost use Rattle.nr_replicas.specs.Replicas.{HasHeard, IsAnsweredAt, IsReadAt};

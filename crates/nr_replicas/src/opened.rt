@@ -3,7 +3,7 @@ ghost use Rattle.std.specs.Arc.{arc_value};
 ghost use Rattle.std.specs.Prelude.{◌≡◌, ◌+◌, ◌<◌, ◌≤◌, All, IfOk, [], length, map, replicate};
 ghost use Rattle.vs_types.specs.declared.limits.TheConstants.{LOG_PLACES, REPLICAS};
 ghost use Rattle.nr_ring.specs.Pass.{new_pass};
-ghost use Rattle.nr_ring.specs.declared.words.TheConstants.{MOST_PLACES};
+ghost use Rattle.nr_ring.specs.declared.cells.words.TheConstants.{MOST_PLACES};
 ghost use Rattle.nr_replicas.specs.inside.Replicas.{IsNewPass, IsNodeOf, slots_each};
 
 use crate::local::Local;

@@ -2,12 +2,12 @@
 use Rattle.std.proofs.Common.{◌≡◌, ℕ, ◌<◌, ◌≤◌, List, [], ◌∷◌, Contains, Option, Some, refl, ap, sym, subst, arith}
 use Rattle.std.specs.Prelude.{slice_index}
 use Rattle.version_cell.specs.Passes.{CellPass}
-use Rattle.vs_types.specs.declared.depth.Depth.{Depth}
+use Rattle.vs_types.specs.declared.addresses.depth.Depth.{Depth}
 use Rattle.nr_ring.specs.LogHistory.{MayAdvance, local_of, log_after}
 use Rattle.nr_ring.specs.Calls.{HasTaken, LiesAhead, MayMake, MayTake, with_event}
-use Rattle.nr_ring.specs.declared.log_event.LogEvent.TheVariants.{Advance}
-use Rattle.nr_ring.specs.declared.stored.Stored.{Stored}
-use Rattle.nr_ring.specs.declared.view.View.{View}
+use Rattle.nr_ring.specs.declared.ring.log_event.LogEvent.TheVariants.{Advance}
+use Rattle.nr_ring.specs.declared.cells.stored.Stored.{Stored}
+use Rattle.nr_ring.specs.declared.ring.view.View.{View}
 use Rattle.nr_ring.specs.inside.Held.{Remembers}
 use Rattle.nr_ring.proofs.Histories.{as_many_locals}
 

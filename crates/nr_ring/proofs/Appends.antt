@@ -2,15 +2,15 @@
 use Rattle.std.proofs.Common.{ℕ, List, All, subst, ◌∙◌, arith}
 use Rattle.std.specs.Prelude.{slice_index_or}
 use Rattle.std.proofs.lemmas.List.Elements.{All-append}
-use Rattle.vs_types.specs.declared.depth.Depth.{Depth}
+use Rattle.vs_types.specs.declared.addresses.depth.Depth.{Depth}
 use Rattle.nr_ring.specs.LogHistory.{Log}
 use Rattle.nr_ring.specs.Calls.{HasLooked, HasMoved}
 use Rattle.nr_ring.specs.View.{HasSeenAdvances, IsElse, StartsWith}
-use Rattle.nr_ring.specs.declared.log_event.LogEvent.{LogEvent}
-use Rattle.nr_ring.specs.declared.view.View.{View}
+use Rattle.nr_ring.specs.declared.ring.log_event.LogEvent.{LogEvent}
+use Rattle.nr_ring.specs.declared.ring.view.View.{View}
 use Rattle.nr_ring.specs.Entries.{IsReason}
-use Rattle.nr_ring.specs.declared.tails.AppendFault.{AppendFault}
-use Rattle.nr_ring.specs.declared.tails.AppendFault.TheVariants.{LogEnded, Full, Moved}
+use Rattle.nr_ring.specs.declared.ring.tails.AppendFault.{AppendFault}
+use Rattle.nr_ring.specs.declared.ring.tails.AppendFault.TheVariants.{LogEnded, Full, Moved}
 use Rattle.nr_ring.specs.inside.Batch.{Bars, Explains}
 pub use Rattle.nr_ring.proofs.Histories.{begins}
 use Rattle.nr_ring.proofs.Passes.{longer}

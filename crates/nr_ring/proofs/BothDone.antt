@@ -3,14 +3,14 @@ use Rattle.std.proofs.Common.{◌≡◌, ℕ, zero, suc, ◌+◌, ◌≤◌, Lis
 use Rattle.std.specs.Prelude.{slice_index_or}
 use Rattle.std.proofs.lemmas.List.{append-nil}
 use Rattle.version_cell.specs.Passes.{CellPass}
-use Rattle.vs_types.specs.declared.depth.Depth.{Depth}
+use Rattle.vs_types.specs.declared.addresses.depth.Depth.{Depth}
 use Rattle.vs_types.specs.declared.log_entry.LogEntry.{LogEntry}
 use Rattle.nr_ring.specs.LogHistory.{Log, IsLogHistory, MayAppend, local_of, log_after, log_after_event, new_log, tail}
 use Rattle.nr_ring.specs.Calls.{HasLooked, with_event, with_events}
 use Rattle.nr_ring.specs.Entries.{HasAppendedAndTaken, to_take}
-use Rattle.nr_ring.specs.declared.log_event.LogEvent.TheVariants.{Append, Advance}
-use Rattle.nr_ring.specs.declared.stored.Stored.{Stored}
-use Rattle.nr_ring.specs.declared.view.View.{View}
+use Rattle.nr_ring.specs.declared.ring.log_event.LogEvent.TheVariants.{Append, Advance}
+use Rattle.nr_ring.specs.declared.cells.stored.Stored.{Stored}
+use Rattle.nr_ring.specs.declared.ring.view.View.{View}
 use Rattle.nr_ring.specs.inside.Held.{Remembers}
 use Rattle.nr_ring.proofs.Advances.{same_replica}
 use Rattle.nr_ring.proofs.Histories.{history_fits}

@@ -6,11 +6,11 @@ use Rattle.std.specs.Prelude.{slice_get, slice_index}
 use Rattle.std.proofs.Math.ListN.{length-append, length-replicate, length-set}
 use Rattle.std.proofs.lemmas.List.{get_or-set_same, get_or-set_other}
 use Rattle.std.proofs.lemmas.Bool.Decides.{eqb_tells}
-use Rattle.vs_types.specs.declared.depth.Depth.{Depth}
+use Rattle.vs_types.specs.declared.addresses.depth.Depth.{Depth}
 use Rattle.vs_types.specs.declared.log_entry.LogEntry.{LogEntry}
 use Rattle.nr_ring.specs.LogHistory.{Log, greatest, tail, MayAdvance, MayAppend, log_after_event, new_log}
 use Rattle.nr_ring.specs.Words.{word_of, IsWordsOf, advanced_words, IsAppended, new_words}
-use Rattle.nr_ring.specs.declared.log_event.LogEvent.TheVariants.{Append, Advance}
+use Rattle.nr_ring.specs.declared.ring.log_event.LogEvent.TheVariants.{Append, Advance}
 use Rattle.nr_ring.proofs.LocalTails.{greatest_raised, le_or_lt}
 use Rattle.vs_types.proofs.Lists.{get_left, get_right}
 

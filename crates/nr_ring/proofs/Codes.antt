@@ -7,13 +7,13 @@ use Rattle.std.proofs.lemmas.Bool.{le-leb, leb-false, leb-true}
 use Rattle.std.specs.Prelude.{◌++◌, All, slice_index}
 use mathlib.Core.Logic.{dite}
 use native.Mathlib.Decide.{dec_le, ℕ_discrete}
-use Rattle.vs_types.specs.declared.depth.Depth.{Depth}
+use Rattle.vs_types.specs.declared.addresses.depth.Depth.{Depth}
 use Rattle.vs_types.specs.declared.log_entry.LogEntry.{LogEntry}
 use Rattle.version_cell.specs.inside.Heads.{IsHead}
 use Rattle.nr_ring.specs.Laws.{FitsTheRing, HasSameTails}
 use Rattle.nr_ring.specs.LogHistory.{Log, MayFollow, completed, greatest, local_of, log_after_event, tail}
-use Rattle.nr_ring.specs.declared.log_event.LogEvent.{LogEvent}
-use Rattle.nr_ring.specs.declared.log_event.LogEvent.TheVariants.{Append, Advance}
+use Rattle.nr_ring.specs.declared.ring.log_event.LogEvent.{LogEvent}
+use Rattle.nr_ring.specs.declared.ring.log_event.LogEvent.TheVariants.{Append, Advance}
 use Rattle.nr_ring.specs.inside.Batch.{AreSmall}
 use Rattle.nr_ring.specs.inside.Held.{IsHeadOf}
 use Rattle.nr_ring.specs.inside.Codes.{above, code_of, code_of_log, for_each, local_in, locals_in, most_in, packed, room_of, rooms_of, tails_word, word_in}

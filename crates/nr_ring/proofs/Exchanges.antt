@@ -11,17 +11,17 @@ use Rattle.atomic_table.proofs.Lists.{set_again, set_here}
 use Rattle.crossbeam_utils.specs.Register.{TurnsAt}
 use Rattle.version_cell.specs.Passes.{CellPass}
 use Rattle.version_cell.specs.Words.{Leaves, LiesIn}
-use Rattle.vs_types.specs.declared.depth.Depth.{Depth}
+use Rattle.vs_types.specs.declared.addresses.depth.Depth.{Depth}
 use Rattle.vs_types.specs.declared.log_entry.LogEntry.{LogEntry}
 use Rattle.nr_ring.specs.LogHistory.{IsLogHistory, Log, MayAdvance, local_of, log_after_event, log_after, new_log, tail}
 use Rattle.nr_ring.specs.Words.{IsOfBatch, Lasts, NeededBy, Needs, last_ring, stored_after, stored_after_event}
 use Rattle.nr_ring.specs.Rule.{IsKept}
 use Rattle.nr_ring.specs.Calls.{HasMoved, Looks, with_event, with_events}
 use Rattle.nr_ring.specs.View.{HasSeenAdvances}
-use Rattle.nr_ring.specs.declared.log_event.LogEvent.{LogEvent}
-use Rattle.nr_ring.specs.declared.log_event.LogEvent.TheVariants.{Append, Advance}
-use Rattle.nr_ring.specs.declared.stored.Stored.{Stored}
-use Rattle.nr_ring.specs.declared.view.View.{View}
+use Rattle.nr_ring.specs.declared.ring.log_event.LogEvent.{LogEvent}
+use Rattle.nr_ring.specs.declared.ring.log_event.LogEvent.TheVariants.{Append, Advance}
+use Rattle.nr_ring.specs.declared.cells.stored.Stored.{Stored}
+use Rattle.nr_ring.specs.declared.ring.view.View.{View}
 use Rattle.nr_ring.specs.inside.Batch.{AreStored, IsWritten}
 use Rattle.nr_ring.specs.inside.Codes.{code_in}
 use Rattle.nr_ring.specs.inside.Held.{LeadTo, MadeOrMoved, Remembers}

@@ -2,13 +2,13 @@
 use Rattle.std.proofs.Common.{◌≡◌, ℕ, zero, suc, ◌+◌, ◌<◌, ◌≤◌, List, [], ◌∷◌, Option, length, ap, subst, le_trans, arith}
 use Rattle.std.specs.Prelude.{slice_index}
 use Rattle.version_cell.specs.Passes.{CellPass}
-use Rattle.vs_types.specs.declared.depth.Depth.{Depth}
+use Rattle.vs_types.specs.declared.addresses.depth.Depth.{Depth}
 use Rattle.nr_ring.specs.LogHistory.{Log, local_of, log_after}
 use Rattle.nr_ring.specs.Pass.{tails_of}
 use Rattle.nr_ring.specs.Words.{last_ring}
-use Rattle.nr_ring.specs.declared.log_event.LogEvent.{LogEvent}
-use Rattle.nr_ring.specs.declared.stored.Stored.{Stored}
-use Rattle.nr_ring.specs.declared.view.View.{View}
+use Rattle.nr_ring.specs.declared.ring.log_event.LogEvent.{LogEvent}
+use Rattle.nr_ring.specs.declared.cells.stored.Stored.{Stored}
+use Rattle.nr_ring.specs.declared.ring.view.View.{View}
 use Rattle.nr_ring.specs.inside.Batch.{AreSmall}
 use Rattle.nr_ring.specs.inside.Codes.{code_in, word_in}
 use Rattle.nr_ring.specs.inside.Held.{IsHeadOf, Remembers, tails_of_head}

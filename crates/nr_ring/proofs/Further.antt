@@ -8,16 +8,16 @@ use mathlib.Core.Option.{some}
 use lib.ListN.{get_elem?}
 use Rattle.version_cell.specs.Meetings.{HaveComeFurther, Recalls}
 use Rattle.version_cell.specs.Passes.{CellPass}
-use Rattle.vs_types.specs.declared.depth.Depth.{Depth}
+use Rattle.vs_types.specs.declared.addresses.depth.Depth.{Depth}
 use Rattle.nr_ring.specs.Calls.{Looks, joint_view}
 use Rattle.nr_ring.specs.Laws.{FitsTheRing, HasSameTails}
 use Rattle.nr_ring.specs.LogHistory.{IsLogHistory, log_after, new_log, tail}
 use Rattle.nr_ring.specs.Rule.{IsKept}
 use Rattle.nr_ring.specs.View.{HasSeenAdvances, IsElse, IsTrueOf, StartsWith, made_by_pass}
 use Rattle.nr_ring.specs.Words.{last_ring, ring_before}
-use Rattle.nr_ring.specs.declared.log_event.LogEvent.{LogEvent}
-use Rattle.nr_ring.specs.declared.stored.Stored.{Stored}
-use Rattle.nr_ring.specs.declared.view.View.{View}
+use Rattle.nr_ring.specs.declared.ring.log_event.LogEvent.{LogEvent}
+use Rattle.nr_ring.specs.declared.cells.stored.Stored.{Stored}
+use Rattle.nr_ring.specs.declared.ring.view.View.{View}
 use Rattle.nr_ring.specs.inside.Codes.{code_in, code_of_log}
 use Rattle.nr_ring.specs.inside.Held.{Remembers}
 use Rattle.nr_ring.proofs.Codes.{event_raises, same_tails}

@@ -8,12 +8,12 @@ use mathlib.Core.Option.{some}
 use lib.ListN.{get_elem?}
 use Rattle.crossbeam_utils.specs.Register.{Forks, Merges}
 use Rattle.version_cell.specs.Meetings.{Recalls}
-use Rattle.vs_types.specs.declared.depth.Depth.{Depth}
+use Rattle.vs_types.specs.declared.addresses.depth.Depth.{Depth}
 use Rattle.nr_ring.specs.Calls.{empty_view, left_view}
 use Rattle.nr_ring.specs.Rule.{IsKept}
 use Rattle.nr_ring.specs.View.{HasSeenAdvances, StartsWith}
-use Rattle.nr_ring.specs.declared.stored.Stored.{Stored}
-use Rattle.nr_ring.specs.declared.view.View.{View}
+use Rattle.nr_ring.specs.declared.cells.stored.Stored.{Stored}
+use Rattle.nr_ring.specs.declared.ring.view.View.{View}
 use Rattle.nr_ring.specs.inside.Gathering.{are_apart, gathered, lacks, no_view, owner_of, taken_over}
 use Rattle.nr_ring.proofs.Further.{between}
 use Rattle.nr_ring.proofs.Joins.{merged, other_at, told_one}

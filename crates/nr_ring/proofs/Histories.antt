@@ -4,16 +4,16 @@ use Rattle.std.proofs.Common.{sym, ◌∙◌, le_refl, le_trans, arith}
 use Rattle.std.proofs.Math.ListN.{length-append, length-set, length-replicate}
 use Rattle.std.proofs.lemmas.List.{append-nil, append_assoc, get_or-set_other, get_or-set_same}
 use Rattle.vs_types.specs.LogEntry.{IsLogEntry}
-use Rattle.vs_types.specs.declared.depth.Depth.{Depth}
-use Rattle.nr_ring.specs.declared.words.TheConstants.{MOST_PLACES}
+use Rattle.vs_types.specs.declared.addresses.depth.Depth.{Depth}
+use Rattle.nr_ring.specs.declared.cells.words.TheConstants.{MOST_PLACES}
 use Rattle.vs_types.specs.declared.log_entry.LogEntry.{LogEntry}
 use Rattle.nr_ring.specs.LogHistory.{Log, new_log, tail, local_of, completed, MayAppend, MayFollow, MayGoOn, IsLogHistory, IsEnded, IsFull, log_after_event}
 use Rattle.nr_ring.specs.LogHistory.{log_after_events}
 use Rattle.nr_ring.specs.LogHistory.{log_after}
 use Rattle.nr_ring.specs.View.{HasSeenAdvances, IsElse, StartsWith}
 use Rattle.nr_ring.specs.Laws.{HasGoneOn, HasSameTails, FitsTheRing}
-use Rattle.nr_ring.specs.declared.log_event.LogEvent.{LogEvent}
-use Rattle.nr_ring.specs.declared.log_event.LogEvent.TheVariants.{Append, Advance}
+use Rattle.nr_ring.specs.declared.ring.log_event.LogEvent.{LogEvent}
+use Rattle.nr_ring.specs.declared.ring.log_event.LogEvent.TheVariants.{Append, Advance}
 use Rattle.nr_ring.proofs.LocalTails.{below_greatest, greatest_least, raised, still_below, le_or_lt, all_or_one}
 
 gone_on : (p q : Log) → (rest : List LogEntry) × (q.entries ≡ p.entries ++ rest) → length q.locals ≡ length p.locals

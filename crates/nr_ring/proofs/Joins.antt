@@ -6,13 +6,13 @@ use mathlib.Core.Option.{some}
 use lib.ListN.{get_elem?}
 use Rattle.atomic_table.proofs.Lists.{at_set}
 use Rattle.crossbeam_utils.specs.Register.{Merges}
-use Rattle.vs_types.specs.declared.depth.Depth.{Depth}
+use Rattle.vs_types.specs.declared.addresses.depth.Depth.{Depth}
 use Rattle.nr_ring.specs.View.{StartsWith, made_by_pass, IsTrueOf}
 use Rattle.nr_ring.specs.Rule.{IsKept}
 use Rattle.nr_ring.specs.Calls.{joint_view, empty_view}
-use Rattle.nr_ring.specs.declared.log_event.LogEvent.{LogEvent}
-use Rattle.nr_ring.specs.declared.stored.Stored.{Stored}
-use Rattle.nr_ring.specs.declared.view.View.{View}
+use Rattle.nr_ring.specs.declared.ring.log_event.LogEvent.{LogEvent}
+use Rattle.nr_ring.specs.declared.cells.stored.Stored.{Stored}
+use Rattle.nr_ring.specs.declared.ring.view.View.{View}
 use Rattle.nr_ring.proofs.Rights.{idle_still, rights_changed}
 
 pub told_one : (events a : List LogEvent) (told : List (List LogEvent)) → StartsWith events a → All (StartsWith events) told

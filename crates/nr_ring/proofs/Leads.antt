@@ -4,14 +4,14 @@ use Rattle.std.specs.Prelude.{slice_index}
 use Rattle.std.proofs.Math.ListN.{length-append, length-replicate}
 use Rattle.std.proofs.lemmas.List.{get_or-append_right, get_or-replicate}
 use Rattle.version_cell.specs.Passes.{CellPass}
-use Rattle.vs_types.specs.declared.depth.Depth.{Depth}
+use Rattle.vs_types.specs.declared.addresses.depth.Depth.{Depth}
 use Rattle.vs_types.specs.declared.log_entry.LogEntry.{LogEntry}
 use Rattle.nr_ring.specs.LogHistory.{HasRoom, Log, MayAdvance, MayAppend, log_after, log_after_event, new_log, tail}
 use Rattle.nr_ring.specs.Words.{last_ring, ring_before, stored_after}
-use Rattle.nr_ring.specs.declared.log_event.LogEvent.{LogEvent}
-use Rattle.nr_ring.specs.declared.log_event.LogEvent.TheVariants.{Append, Advance}
-use Rattle.nr_ring.specs.declared.stored.Stored.{Stored}
-use Rattle.nr_ring.specs.declared.view.View.{View}
+use Rattle.nr_ring.specs.declared.ring.log_event.LogEvent.{LogEvent}
+use Rattle.nr_ring.specs.declared.ring.log_event.LogEvent.TheVariants.{Append, Advance}
+use Rattle.nr_ring.specs.declared.cells.stored.Stored.{Stored}
+use Rattle.nr_ring.specs.declared.ring.view.View.{View}
 use Rattle.nr_ring.specs.inside.Codes.{code_in, code_of, code_of_log, locals_in}
 use Rattle.nr_ring.specs.inside.Held.{LeadTo, Remembers}
 use Rattle.nr_ring.proofs.Advances.{may_make}

@@ -7,7 +7,7 @@ use Rattle.std.specs.Prelude.{slice_get, slice_index}
 use Rattle.std.proofs.Math.ListN.{get_or-append, length-append, length-set}
 use Rattle.std.proofs.lemmas.List.{get_or-append-add, get_or-replicate, get_or-set_other}
 use Rattle.std.proofs.lemmas.Option.{slice_get_within}
-use Rattle.vs_types.specs.declared.depth.Depth.{Depth}
+use Rattle.vs_types.specs.declared.addresses.depth.Depth.{Depth}
 use Rattle.vs_types.specs.declared.log_entry.LogEntry.{LogEntry}
 use Rattle.vs_types.proofs.Lists.{get_left, get_right}
 use Rattle.nr_ring.specs.Calls.{with_event}
@@ -15,10 +15,10 @@ use Rattle.nr_ring.specs.Laws.{FitsTheRing}
 use Rattle.nr_ring.specs.LogHistory.{AllKeepUp, IsLogHistory, Log, MayAdvance, log_after, log_after_event, new_log, tail}
 use Rattle.nr_ring.specs.View.{IsElse}
 use Rattle.nr_ring.specs.Words.{IsOfBatch, NeededBy, Needs, last_ring, link, ring_before, rings_after, spot, stored_after, stored_after_event, stored_words}
-use Rattle.nr_ring.specs.declared.log_event.LogEvent.{LogEvent}
-use Rattle.nr_ring.specs.declared.log_event.LogEvent.TheVariants.{Append, Advance}
-use Rattle.nr_ring.specs.declared.stored.Stored.{Stored}
-use Rattle.nr_ring.specs.declared.view.View.{View}
+use Rattle.nr_ring.specs.declared.ring.log_event.LogEvent.{LogEvent}
+use Rattle.nr_ring.specs.declared.ring.log_event.LogEvent.TheVariants.{Append, Advance}
+use Rattle.nr_ring.specs.declared.cells.stored.Stored.{Stored}
+use Rattle.nr_ring.specs.declared.ring.view.View.{View}
 use Rattle.nr_ring.specs.inside.Held.{LeadTo}
 use Rattle.nr_ring.proofs.Histories.{history_fits}
 use Rattle.nr_ring.proofs.LocalTails.{le_or_lt, raised}

@@ -4,16 +4,16 @@ use Rattle.std.proofs.Common.{subst, ◌∙◌, arith}
 use Rattle.std.proofs.lemmas.List.{get_or-set_same}
 use Rattle.std.proofs.lemmas.Bool.Decides.{eqb_tells}
 use Rattle.version_cell.specs.Passes.{CellPass}
-use Rattle.vs_types.specs.declared.depth.Depth.{Depth}
+use Rattle.vs_types.specs.declared.addresses.depth.Depth.{Depth}
 use Rattle.vs_types.specs.declared.log_entry.LogEntry.{LogEntry}
 use Rattle.nr_ring.specs.LogHistory.{Log, IsLogHistory, MayGoOn, MayFollow, local_of, log_after, log_after_event, log_after_events, new_log, tail}
 use Rattle.nr_ring.specs.View.{HasSeenAdvances}
 use Rattle.nr_ring.specs.Calls.{HasLooked, HasTaken, LiesAhead, with_event}
 use Rattle.nr_ring.specs.Entries.{HasAppended}
-use Rattle.nr_ring.specs.declared.log_event.LogEvent.{LogEvent}
-use Rattle.nr_ring.specs.declared.log_event.LogEvent.TheVariants.{Append, Advance}
-use Rattle.nr_ring.specs.declared.stored.Stored.{Stored}
-use Rattle.nr_ring.specs.declared.view.View.{View}
+use Rattle.nr_ring.specs.declared.ring.log_event.LogEvent.{LogEvent}
+use Rattle.nr_ring.specs.declared.ring.log_event.LogEvent.TheVariants.{Append, Advance}
+use Rattle.nr_ring.specs.declared.cells.stored.Stored.{Stored}
+use Rattle.nr_ring.specs.declared.ring.view.View.{View}
 use Rattle.nr_ring.specs.inside.Held.{Remembers, owned, IsBelow}
 use Rattle.nr_ring.proofs.Advances.{same_replica}
 use Rattle.nr_ring.proofs.Histories.{beginning_goes_on, goes_on_after, local_since}

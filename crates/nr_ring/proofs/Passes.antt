@@ -4,13 +4,13 @@ use Rattle.std.proofs.Common.{refl, ap, sym, subst, ◌∙◌, arith}
 use Rattle.std.specs.List.{range_with_len}
 use Rattle.std.proofs.lemmas.List.FromFn.{get_or-range_with_len, length-range_with_len}
 use Rattle.version_cell.specs.Passes.{CellPass}
-use Rattle.vs_types.specs.declared.depth.Depth.{Depth}
+use Rattle.vs_types.specs.declared.addresses.depth.Depth.{Depth}
 use Rattle.nr_ring.specs.LogHistory.{log_after, tail}
 use Rattle.nr_ring.specs.View.{StartsWith}
 use Rattle.nr_ring.specs.Calls.{Looks, IsCut}
-use Rattle.nr_ring.specs.declared.log_event.LogEvent.{LogEvent}
-use Rattle.nr_ring.specs.declared.stored.Stored.{Stored}
-use Rattle.nr_ring.specs.declared.view.View.{View}
+use Rattle.nr_ring.specs.declared.ring.log_event.LogEvent.{LogEvent}
+use Rattle.nr_ring.specs.declared.cells.stored.Stored.{Stored}
+use Rattle.nr_ring.specs.declared.ring.view.View.{View}
 use Rattle.nr_ring.specs.inside.Held.{IsBelow, Remembers, left_from, new_view, nothing_stored, owned, rest_of}
 
 pub longer : (after before : List LogEvent) → StartsWith after before → length before ≤ length after

@@ -5,9 +5,9 @@ use Rattle.std.proofs.lemmas.List.Sums.{sum_by-set}
 use mathlib.Core.Option.{some, some-injective, some-ne-none}
 use lib.ListN.{get_elem?}
 use Rattle.nr_ring.specs.Calls.{MayMake}
-use Rattle.nr_ring.specs.declared.log_event.LogEvent.{LogEvent}
-use Rattle.nr_ring.specs.declared.log_event.LogEvent.TheVariants.{Append, Advance}
-use Rattle.nr_ring.specs.declared.view.View.{View}
+use Rattle.nr_ring.specs.declared.ring.log_event.LogEvent.{LogEvent}
+use Rattle.nr_ring.specs.declared.ring.log_event.LogEvent.TheVariants.{Append, Advance}
+use Rattle.nr_ring.specs.declared.ring.view.View.{View}
 use Rattle.nr_ring.proofs.Views.{below_end, views_changed}
 
 view_at : (views : List View) (pass : ℕ) (v : View) → get_elem? views pass ≡ some v → get_or views pass v ≡ v

@@ -3,10 +3,10 @@ use Rattle.std.proofs.Common.{◌≡◌, ℕ, zero, suc, ◌+◌, ◌*◌, ◌<�
 use Rattle.std.proofs.Math.ListN.{length-append}
 use Rattle.std.proofs.lemmas.List.{get_or-replicate}
 use Rattle.vs_types.specs.LogEntry.{IsLogEntry}
-use Rattle.vs_types.specs.declared.depth.Depth.TheVariants.{Four}
+use Rattle.vs_types.specs.declared.addresses.depth.Depth.TheVariants.{Four}
 use Rattle.nr_ring.specs.Examples.{a_map, batch_of, rounds}
 use Rattle.nr_ring.specs.LogHistory.{Log, new_log, tail, MayAppend, MayAdvance, MayGoOn, log_after_event, log_after_events}
-use Rattle.nr_ring.specs.declared.log_event.LogEvent.TheVariants.{Append, Advance}
+use Rattle.nr_ring.specs.declared.ring.log_event.LogEvent.TheVariants.{Append, Advance}
 
 is_entry : IsLogEntry Four a_map
 is_entry = search rules

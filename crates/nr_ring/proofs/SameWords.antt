@@ -3,12 +3,12 @@ use Rattle.std.proofs.Common.{◌≡◌, ℕ, zero, suc, ◌+◌, ◌-◌, ◌*�
 use Rattle.std.specs.Prelude.{slice_index}
 use Rattle.std.proofs.lemmas.List.{ext_get_or}
 use Rattle.vs_types.specs.LogEntry.{log_words}
-use Rattle.vs_types.specs.declared.depth.Depth.{Depth}
+use Rattle.vs_types.specs.declared.addresses.depth.Depth.{Depth}
 use Rattle.vs_types.specs.declared.log_entry.LogEntry.{LogEntry}
 use Rattle.nr_ring.specs.Laws.{FitsTheRing}
 use Rattle.nr_ring.specs.LogHistory.{IsLogHistory, Log, log_after, tail}
 use Rattle.nr_ring.specs.Words.{IsWordOfLog, IsWordsOf, NeededBy, last_ring, ring_before, stored_words, word_of}
-use Rattle.nr_ring.specs.declared.stored.Stored.{Stored}
+use Rattle.nr_ring.specs.declared.cells.stored.Stored.{Stored}
 use Rattle.nr_ring.specs.inside.Codes.{code_in, code_of_log, tails_word, word_in}
 use Rattle.nr_ring.proofs.Codes.{completed_told, local_told, tells_count, tells_tail, word_early}
 use Rattle.nr_ring.proofs.Histories.{as_many_locals, history_fits}

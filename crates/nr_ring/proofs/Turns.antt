@@ -6,16 +6,16 @@ use Rattle.std.proofs.lemmas.List.Elements.{All-append}
 use mathlib.Core.Option.{some}
 use lib.ListN.{get_elem?}
 use Rattle.crossbeam_utils.specs.Register.{Turns}
-use Rattle.vs_types.specs.declared.depth.Depth.{Depth}
+use Rattle.vs_types.specs.declared.addresses.depth.Depth.{Depth}
 use Rattle.nr_ring.specs.LogHistory.{Log, MayFollow, new_log, log_after_event, log_after, tail}
 use Rattle.nr_ring.specs.Words.{rings_after, stored_after_event}
 use Rattle.nr_ring.specs.View.{IsElse, made_by_pass, IsTrueOf}
 use Rattle.nr_ring.specs.Rule.{IsKept}
 use Rattle.nr_ring.specs.Calls.{Looks, MayMake, with_event}
-use Rattle.nr_ring.specs.declared.log_event.LogEvent.{LogEvent}
-use Rattle.nr_ring.specs.declared.log_event.LogEvent.TheVariants.{Append, Advance}
-use Rattle.nr_ring.specs.declared.stored.Stored.{Stored}
-use Rattle.nr_ring.specs.declared.view.View.{View}
+use Rattle.nr_ring.specs.declared.ring.log_event.LogEvent.{LogEvent}
+use Rattle.nr_ring.specs.declared.ring.log_event.LogEvent.TheVariants.{Append, Advance}
+use Rattle.nr_ring.specs.declared.cells.stored.Stored.{Stored}
+use Rattle.nr_ring.specs.declared.ring.view.View.{View}
 use Rattle.nr_ring.proofs.Views.{whole, nothing_since, begins_still, advances_still, goes_on_by, after_one_more, made_by_it, made_by_another, owned_before}
 use Rattle.nr_ring.proofs.Views.{below_end, contains_item, views_changed}
 use Rattle.nr_ring.proofs.Rights.{has_right, idle_still, rights_changed}

@@ -7,11 +7,11 @@ use Rattle.std.proofs.lemmas.Bool.{eq-eqb, ne_eqb}
 use mathlib.Core.Option.{some, some-ne-none}
 use lib.ListN.{get_elem?}
 use Rattle.atomic_table.proofs.Lists.{at_set}
-use Rattle.vs_types.specs.declared.depth.Depth.{Depth}
+use Rattle.vs_types.specs.declared.addresses.depth.Depth.{Depth}
 use Rattle.nr_ring.specs.LogHistory.{Log, MayFollow, MayGoOn, log_after_event, log_after_events}
 use Rattle.nr_ring.specs.View.{StartsWith, IsElse, HasSeenAdvances, made_from, made_by_pass}
-use Rattle.nr_ring.specs.declared.log_event.LogEvent.{LogEvent}
-use Rattle.nr_ring.specs.declared.view.View.{View}
+use Rattle.nr_ring.specs.declared.ring.log_event.LogEvent.{LogEvent}
+use Rattle.nr_ring.specs.declared.ring.view.View.{View}
 
 pub goes_on_by : (depth : Depth) (log : Log) (events : List LogEvent) (event : LogEvent) → MayGoOn depth log events
     → MayFollow depth (log_after_events log events) event

@@ -1,14 +1,14 @@
 -- Appending entries to a log, and taking them.
 use Rattle.std.specs.Prelude.{◌≡◌, ℕ, List, [], ◌∷◌, ◌++◌, drop}
-use Rattle.vs_types.specs.declared.depth.Depth.{Depth}
+use Rattle.vs_types.specs.declared.addresses.depth.Depth.{Depth}
 use Rattle.vs_types.specs.declared.log_entry.LogEntry.{LogEntry}
 use Rattle.nr_ring.specs.LogHistory.{Log, AllKeepUp, HasRoom, IsEnded, IsFull, IsLogHistory, local_of, log_after, tail}
 use Rattle.nr_ring.specs.Calls.{HasLooked, HasMoved, HasTaken, with_event}
 use Rattle.nr_ring.specs.Pass.{tails_of}
-use Rattle.nr_ring.specs.declared.log_event.LogEvent.TheVariants.{Append}
-use Rattle.nr_ring.specs.declared.tails.AppendFault.{AppendFault}
-use Rattle.nr_ring.specs.declared.tails.AppendFault.TheVariants.{LogEnded, Full, Moved}
-use Rattle.nr_ring.specs.declared.view.View.{View}
+use Rattle.nr_ring.specs.declared.ring.log_event.LogEvent.TheVariants.{Append}
+use Rattle.nr_ring.specs.declared.ring.tails.AppendFault.{AppendFault}
+use Rattle.nr_ring.specs.declared.ring.tails.AppendFault.TheVariants.{LogEnded, Full, Moved}
+use Rattle.nr_ring.specs.declared.ring.view.View.{View}
 
 -- the entries that a replica has still to take
 abbrev pub to_take : Log → ℕ → List LogEntry

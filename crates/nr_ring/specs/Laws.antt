@@ -3,10 +3,10 @@ use Rattle.std.specs.Prelude.{◌≡◌, ℕ, ◌≤◌, ◌<◌, ◌+◌, List,
 use mathlib.Core.Option.{some}
 use lib.ListN.{get_elem?}
 use Rattle.vs_types.specs.declared.log_entry.LogEntry.{LogEntry}
-use Rattle.nr_ring.specs.declared.view.View.{View}
+use Rattle.nr_ring.specs.declared.ring.view.View.{View}
 use Rattle.vs_types.specs.declared.limits.TheConstants.{RING}
 use Rattle.nr_ring.specs.LogHistory.{Log, tail, local_of, completed}
-use Rattle.nr_ring.specs.declared.words.TheConstants.{MOST_PLACES}
+use Rattle.nr_ring.specs.declared.cells.words.TheConstants.{MOST_PLACES}
 
 -- the later log begins with the entries of the earlier one, and no tail has fallen
 pub record HasGoneOn (earlier later : Log) : Type 0 where

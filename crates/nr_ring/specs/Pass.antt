@@ -3,8 +3,8 @@ use Rattle.std.specs.Prelude.{ℕ, List, [], ◌∷◌, ◌++◌, Contains, ⊤,
 use Rattle.std.specs.List.{range_with_len}
 pub use Rattle.atomic_table.specs.Seated.{TableId}
 use Rattle.nr_ring.specs.LogHistory.{Log, tail, local_of, completed}
-use Rattle.nr_ring.specs.declared.view.View.{View}
-use Rattle.nr_ring.specs.declared.tails.Tails.{Tails}
+use Rattle.nr_ring.specs.declared.ring.view.View.{View}
+use Rattle.nr_ring.specs.declared.ring.tails.Tails.{Tails}
 
 -- a pass: which log it is of, and what it knows of it
 pub record Known : Type 0 where

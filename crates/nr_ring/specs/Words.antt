@@ -5,11 +5,11 @@ use Rattle.vs_types.specs.LogEntry.{log_words}
 use Rattle.vs_types.specs.declared.limits.TheConstants.{REPLICAS, RING}
 use Rattle.vs_types.specs.declared.log_entry.LogEntry.{LogEntry}
 use Rattle.nr_ring.specs.LogHistory.{Log, completed, local_of, log_after, tail}
-use Rattle.nr_ring.specs.declared.log_event.LogEvent.{LogEvent}
-use Rattle.nr_ring.specs.declared.log_event.LogEvent.TheVariants.{Append, Advance}
-use Rattle.nr_ring.specs.declared.stored.Stored.{Stored}
-use Rattle.nr_ring.specs.declared.view.View.{View}
-use Rattle.nr_ring.specs.declared.words.TheConstants.{CELL_WORDS, TAIL_WORD, COMPLETED_WORD, LOCAL_WORDS, COUNT_WORD, ENTRY_WORDS}
+use Rattle.nr_ring.specs.declared.ring.log_event.LogEvent.{LogEvent}
+use Rattle.nr_ring.specs.declared.ring.log_event.LogEvent.TheVariants.{Append, Advance}
+use Rattle.nr_ring.specs.declared.cells.stored.Stored.{Stored}
+use Rattle.nr_ring.specs.declared.ring.view.View.{View}
+use Rattle.nr_ring.specs.declared.cells.words.TheConstants.{CELL_WORDS, TAIL_WORD, COMPLETED_WORD, LOCAL_WORDS, COUNT_WORD, ENTRY_WORDS}
 
 -- the index of the first of the two words of an entry among the words of its log
 abbrev pub word_of : ℕ → ℕ

@@ -1,10 +1,10 @@
 //! Worked examples of histories.
 ghost use Rattle.std.specs.Prelude.{◌≡◌, ℕ, [], ◌∷◌, ◌++◌, drop, length};
-ghost use Rattle.vs_types.specs.declared.depth.Depth.TheVariants.{Four};
+ghost use Rattle.vs_types.specs.declared.addresses.depth.Depth.TheVariants.{Four};
 ghost use Rattle.vs_types.specs.declared.limits.TheConstants.{LOG_PLACES};
 ghost use Rattle.nr_ring.specs.Examples.{batch_of, filled, freed, half_freed, rounds};
 ghost use Rattle.nr_ring.specs.LogHistory.{IsEnded, IsFull, IsLogHistory, MayAppend, completed, log_after, tail};
-ghost use Rattle.nr_ring.specs.declared.log_event.LogEvent.TheVariants.{Append};
+ghost use Rattle.nr_ring.specs.declared.ring.log_event.LogEvent.TheVariants.{Append};
 
 /// A log of two replicas. After 16 entries it is full, and still so when only replica 0 has taken them. When replica 1 has
 /// taken one, one entry may be appended, and replica 1 has 16 entries to take.

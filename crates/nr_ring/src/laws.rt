@@ -1,26 +1,26 @@
 //! Laws of the definitions in `specs/`. Each function does nothing: its clauses say what holds of every history.
 ghost use Rattle.std.specs.Prelude.{◌≡◌, ℕ, ◌<◌, ◌≤◌, ◌⊎◌, List, [], ◌∷◌, All, Contains, length};
 ghost use Rattle.vs_types.specs.LogEntry.{IsLogEntry};
-ghost use Rattle.vs_types.specs.declared.depth.Depth.{Depth};
+ghost use Rattle.vs_types.specs.declared.addresses.depth.Depth.{Depth};
 ghost use Rattle.vs_types.specs.declared.log_entry.LogEntry.{LogEntry};
 ghost use Rattle.nr_ring.specs.LogHistory.{Log, MayGoOn, MayAppend, IsLogHistory, IsEnded, IsFull, log_after_events, log_after, local_of};
 ghost use Rattle.nr_ring.specs.LogHistory.{completed};
-ghost use Rattle.nr_ring.specs.declared.words.TheConstants.{MOST_PLACES};
+ghost use Rattle.nr_ring.specs.declared.cells.words.TheConstants.{MOST_PLACES};
 ghost use Rattle.nr_ring.specs.Laws.{HasGoneOn, HasSameTails, FitsTheRing};
 ghost use Rattle.nr_ring.specs.Calls.{HasLooked, HasTaken};
 ghost use Rattle.nr_ring.specs.Entries.{HasAppended};
 ghost use Rattle.nr_ring.specs.View.{HasSeenAdvances, StartsWith};
-ghost use Rattle.nr_ring.specs.declared.log_event.LogEvent.{LogEvent};
-ghost use Rattle.nr_ring.specs.declared.view.View.{View};
+ghost use Rattle.nr_ring.specs.declared.ring.log_event.LogEvent.{LogEvent};
+ghost use Rattle.nr_ring.specs.declared.ring.view.View.{View};
 ghost use Rattle.vs_types.specs.declared.limits.TheConstants.{RING};
 
-pub use crate::cell_words::{
+pub use crate::cells::cell_words::{
     advances_change_two_words, advances_need_nothing_new, appends_keep_needed_entries,
     appends_need_their_batch, codes_determine_tails_and_ring, codes_determine_the_first_words,
     needed_words_are_unique, new_logs_have_new_words, places_of_a_batch_are_free,
     rings_hold_the_words_of_the_log, words_are_a_function_of_the_log,
 };
-pub use crate::steps::{
+pub use crate::passing::steps::{
     events_keep_the_rule, events_leave_what_lasts, joins_keep_the_rule, looks_keep_the_rule,
     makers_have_rights, new_logs_keep_the_rule, splits_keep_the_rule,
 };

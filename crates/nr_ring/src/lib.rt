@@ -4,29 +4,17 @@
 //! tail is the greatest local tail.
 #![tactic(auto)]
 
-mod batch;
-mod cell_words;
-mod code;
+mod cells;
 pub mod examples;
 pub mod laws;
-mod log_event;
-mod name;
-mod packed;
-mod pass;
-mod ring_log;
-mod rule;
-mod steps;
-mod stored;
-mod tails;
-mod taking;
-mod view;
-mod words;
+mod passing;
+mod ring;
 
-pub use log_event::LogEvent;
-pub use name::LogName;
-pub use packed::PackedEntry;
-pub use pass::LogPass;
-pub use ring_log::RingLog;
-pub use tails::{AppendFault, Moved, Tails};
-pub use view::View;
-pub use words::{MOST_PLACES, OTHERS};
+pub use cells::packed::PackedEntry;
+pub use cells::words::{MOST_PLACES, OTHERS};
+pub use passing::pass::LogPass;
+pub use ring::log_event::LogEvent;
+pub use ring::name::LogName;
+pub use ring::ring_log::RingLog;
+pub use ring::tails::{AppendFault, Moved, Tails};
+pub use ring::view::View;

@@ -7,9 +7,9 @@ use Rattle.std.specs.Option.{option_or}
 use Rattle.std.proofs.lemmas.Grind.{flat_map-append}
 use Rattle.std.proofs.lemmas.List.Sums.{fold-append}
 use Rattle.vs_types.specs.declared.limits.TheConstants.{LOG_PLACES}
-use Rattle.vs_types.specs.declared.depth.Depth.{Depth}
-use Rattle.vs_types.specs.declared.request.Query.{Query}
-use Rattle.nr_core.specs.declared.step.Step.{Step}
+use Rattle.vs_types.specs.declared.addresses.depth.Depth.{Depth}
+use Rattle.vs_types.specs.declared.requests.request.Query.{Query}
+use Rattle.nr_core.specs.declared.runs.step.Step.{Step}
 use Rattle.nr_script.specs.declared.script.TheConstants.{SCRIPT_STEPS}
 use Rattle.nr_script.specs.Lines.{Says}
 use Rattle.nr_script.specs.Script.{asked, first_step_in, is_step, request_in, step_in, steps_of, thread_count, IsWithinLimits}
@@ -35,8 +35,8 @@ use Rattle.std.proofs.lemmas.List.{get_or-map, get_or-set_other, length-map, len
 use Rattle.std.proofs.lemmas.List.Elements.{filter-append}
 use Rattle.std.proofs.lemmas.List.FromFn.{fill_by_all, get_or-map-range_with_len, length-map-range_with_len, map-range_with_len_more, take-map-range_with_len}
 use Rattle.vs_types.specs.Refusal.{IfRefused}
-use Rattle.vs_types.specs.declared.refusal.Fail.{Fail}
-use Rattle.vs_types.specs.declared.refusal.Fail.TheVariants.{Memory, Refused}
+use Rattle.vs_types.specs.declared.requests.refusal.Fail.{Fail}
+use Rattle.vs_types.specs.declared.requests.refusal.Fail.TheVariants.{Memory, Refused}
 use Rattle.nr_script.specs.Script.{requests_by}
 use Rattle.nr_script.specs.declared.script.BadLine.{BadLine}
 

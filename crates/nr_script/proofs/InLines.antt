@@ -4,11 +4,11 @@ use Rattle.std.proofs.Common.{Option, Some, None, inl, inr}
 use Rattle.std.specs.Borrow.{Bor}
 use Rattle.std.proofs.lemmas.List.{length-take, take_all, take_rest}
 use Rattle.vs_types.specs.Finds.{Finds}
-use Rattle.vs_types.specs.declared.depth.Depth.{Depth}
-use Rattle.vs_types.specs.declared.request.Query.{Query}
-use Rattle.nr_core.specs.declared.step.Act.{Act}
-use Rattle.nr_core.specs.declared.step.Act.TheVariants.{Call}
-use Rattle.nr_core.specs.declared.step.Step.{Step}
+use Rattle.vs_types.specs.declared.addresses.depth.Depth.{Depth}
+use Rattle.vs_types.specs.declared.requests.request.Query.{Query}
+use Rattle.nr_core.specs.declared.runs.step.Act.{Act}
+use Rattle.nr_core.specs.declared.runs.step.Act.TheVariants.{Call}
+use Rattle.nr_core.specs.declared.runs.step.Step.{Step}
 use Rattle.nr_script.specs.Lines.{act_words, Says, SpellsRequest, SpellsStep}
 use Rattle.vs_text.specs.Words.{texts, words}
 use Rattle.vs_text.proofs.OneRequest.{few_words_of_request}

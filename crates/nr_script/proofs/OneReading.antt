@@ -1,10 +1,10 @@
 -- A line has one form only: it is passed over, a request or a step.
 use Rattle.std.proofs.Common.{◌≡◌, ℕ, ◌<◌, List, [], ◌∷◌, codes, decimal, get_or, inl, inr, length, sym, ap, ◌∙◌, arith}
 use Rattle.std.specs.List.{onto_first}
-use Rattle.vs_types.specs.declared.depth.Depth.{Depth}
-use Rattle.vs_types.specs.declared.request.Query.{Query}
+use Rattle.vs_types.specs.declared.addresses.depth.Depth.{Depth}
+use Rattle.vs_types.specs.declared.requests.request.Query.{Query}
 use Rattle.vs_text.specs.Words.{words}
-use Rattle.nr_core.specs.declared.step.Step.{Step}
+use Rattle.nr_core.specs.declared.runs.step.Step.{Step}
 use Rattle.nr_script.specs.Lines.{IsPassedOver, Says}
 use Rattle.nr_script.specs.declared.line.Line.TheVariants as says
 use Rattle.nr_script.proofs.InLines.{not_number}

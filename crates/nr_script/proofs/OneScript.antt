@@ -6,13 +6,13 @@ use Rattle.std.specs.Prelude.{if◌then◌else◌}
 use Rattle.std.specs.List.{AllZip}
 use Rattle.std.proofs.lemmas.Fmt.{decimal_injective}
 use Rattle.std.proofs.lemmas.Grind.{flat_map-append}
-use Rattle.vs_types.specs.declared.depth.Depth.{Depth}
-use Rattle.vs_types.specs.declared.request.Query.{Query}
+use Rattle.vs_types.specs.declared.addresses.depth.Depth.{Depth}
+use Rattle.vs_types.specs.declared.requests.request.Query.{Query}
 use Rattle.vs_text.specs.Requests.{SpellsQuery}
 use Rattle.vs_text.proofs.OneRequest.{one_request, word_number}
-use Rattle.nr_core.specs.declared.step.Act.{Act}
-use Rattle.nr_core.specs.declared.step.Act.TheVariants.{Call, Post, Take, Collect, Append, Advance, Apply, Answer, Release, Look, Read, Reply}
-use Rattle.nr_core.specs.declared.step.Step.{Step}
+use Rattle.nr_core.specs.declared.runs.step.Act.{Act}
+use Rattle.nr_core.specs.declared.runs.step.Act.TheVariants.{Call, Post, Take, Collect, Append, Advance, Apply, Answer, Release, Look, Read, Reply}
+use Rattle.nr_core.specs.declared.runs.step.Step.{Step}
 use Rattle.nr_script.specs.Lines.{act_number, act_words, Says, SpellsRequest, SpellsStep}
 use Rattle.nr_script.specs.Script.{request_in, step_in, IsBadLine, IsScript, IsWithinLimits}
 use Rattle.nr_script.specs.declared.line.Line.{Line}

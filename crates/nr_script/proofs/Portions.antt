@@ -11,12 +11,12 @@ use Rattle.std.proofs.lemmas.Slice.Zip.{all_zipped_more}
 use Rattle.std.specs.declared.vec.Vec.{Vec}
 use Rattle.std.specs.declared.alloc.Global.{Global}
 use Rattle.vs_types.specs.Finds.{Finds}
-use Rattle.vs_types.specs.declared.depth.Depth.{Depth}
-use Rattle.vs_types.specs.declared.request.Query.{Query}
+use Rattle.vs_types.specs.declared.addresses.depth.Depth.{Depth}
+use Rattle.vs_types.specs.declared.requests.request.Query.{Query}
 use Rattle.vs_types.specs.Refusal.{IfRefused}
-use Rattle.vs_types.specs.declared.refusal.Fail.{Fail}
-use Rattle.vs_types.specs.declared.refusal.Fail.TheVariants.{Memory, Refused}
-use Rattle.nr_core.specs.declared.step.Step.{Step}
+use Rattle.vs_types.specs.declared.requests.refusal.Fail.{Fail}
+use Rattle.vs_types.specs.declared.requests.refusal.Fail.TheVariants.{Memory, Refused}
+use Rattle.nr_core.specs.declared.runs.step.Step.{Step}
 use Rattle.nr_script.specs.Fed.{EndsIn, EndsLine, GoesOn}
 use Rattle.nr_script.specs.Lines.{Says}
 use Rattle.nr_script.specs.Portion.{AsksMore, EndsPortion, HasBadNext, IsNoRequest, PortionState, TakesLines, number_behind, request_count}

@@ -8,8 +8,8 @@ use Rattle.std.proofs.lemmas.List.FromFn.{length-map-range_with_len}
 use Rattle.std.proofs.lemmas.List.Sums.{sum_by-cons}
 use Rattle.vs_types.specs.Config.{Layout}
 use Rattle.vs_types.specs.Query.{IsQuery}
-use Rattle.vs_types.specs.declared.depth.Depth.{Depth}
-use Rattle.vs_types.specs.declared.request.Query.{Query}
+use Rattle.vs_types.specs.declared.addresses.depth.Depth.{Depth}
+use Rattle.vs_types.specs.declared.requests.request.Query.{Query}
 use Rattle.vs_types.specs.Query.{AreScripts}
 use Rattle.nr_script.specs.Lines.{Says}
 use Rattle.nr_script.specs.Script.{asked, requests_by, thread_count, IsScript}

@@ -1,12 +1,12 @@
 -- Worked examples: a short script with what its lines say, and a text with a bad line.
 use Rattle.std.specs.Prelude.{ℕ, List, [], ◌∷◌, codes}
 use Rattle.vs_types.specs.Entry.{all_rights}
-use Rattle.vs_types.specs.declared.op.Action.TheVariants.{Map}
-use Rattle.vs_types.specs.declared.page.Size.TheVariants.{K4}
-use Rattle.vs_types.specs.declared.request.Query.{Query}
-use Rattle.vs_types.specs.declared.request.Query.TheVariants.{Update, Resolve}
-use Rattle.nr_core.specs.declared.step.Act.TheVariants.{Call, Take}
-use Rattle.nr_core.specs.declared.step.Step.{Step}
+use Rattle.vs_types.specs.declared.requests.op.Action.TheVariants.{Map}
+use Rattle.vs_types.specs.declared.addresses.page.Size.TheVariants.{K4}
+use Rattle.vs_types.specs.declared.requests.request.Query.{Query}
+use Rattle.vs_types.specs.declared.requests.request.Query.TheVariants.{Update, Resolve}
+use Rattle.nr_core.specs.declared.runs.step.Act.TheVariants.{Call, Take}
+use Rattle.nr_core.specs.declared.runs.step.Step.{Step}
 use Rattle.nr_script.specs.declared.line.Line.{Line}
 use Rattle.nr_script.specs.declared.line.Line.TheVariants as says
 

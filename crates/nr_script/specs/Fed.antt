@@ -1,7 +1,7 @@
 -- What a piece of a script makes of the line that has begun.
 use Rattle.std.specs.Prelude.{◌≡◌, ◌<◌, ◌≤◌, ◌++◌, ℕ, List, [], ◌∷◌, Option, length, take}
 use Rattle.vs_types.specs.Finds.{Finds}
-use Rattle.vs_types.specs.declared.depth.Depth.{Depth}
+use Rattle.vs_types.specs.declared.addresses.depth.Depth.{Depth}
 use Rattle.nr_script.specs.Lines.{lines, Says}
 use Rattle.nr_script.specs.declared.line.Line.{Line}
 use Rattle.nr_script.specs.declared.line_feed.Fed.{Fed}

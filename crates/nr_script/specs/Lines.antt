@@ -1,11 +1,11 @@
 -- What a line of a script says, by its words: a request of a thread, or a step of a thread. An empty line and a comment are
 -- passed over.
 use Rattle.std.specs.Prelude.{◌≡◌, ◌<◌, ◌⊎◌, ◌++◌, ℕ, List, [], ◌∷◌, codes, decimal}
-use Rattle.vs_types.specs.declared.depth.Depth.{Depth}
-use Rattle.vs_types.specs.declared.request.Query.{Query}
-use Rattle.nr_core.specs.declared.step.Act.{Act}
-use Rattle.nr_core.specs.declared.step.Act.TheVariants.{Call, Post, Take, Collect, Append, Advance, Apply, Answer, Release, Look, Read, Reply}
-use Rattle.nr_core.specs.declared.step.Step.{Step}
+use Rattle.vs_types.specs.declared.addresses.depth.Depth.{Depth}
+use Rattle.vs_types.specs.declared.requests.request.Query.{Query}
+use Rattle.nr_core.specs.declared.runs.step.Act.{Act}
+use Rattle.nr_core.specs.declared.runs.step.Act.TheVariants.{Call, Post, Take, Collect, Append, Advance, Apply, Answer, Release, Look, Read, Reply}
+use Rattle.nr_core.specs.declared.runs.step.Step.{Step}
 use Rattle.vs_text.specs.Requests.{SpellsQuery}
 use Rattle.vs_text.specs.Words.{parts, words}
 use Rattle.nr_script.specs.declared.line.Line.{Line}

@@ -1,9 +1,9 @@
 -- Portions of a script of any length that comes in pieces: what each thread asks in some of its lines.
 use Rattle.std.specs.Prelude.{◌≡◌, ◌<◌, ◌⊎◌, ℕ, ◌+◌, List, [], ◌∷◌, ◌++◌, length, min, replicate, slice_index_or}
 use Rattle.std.specs.List.{sum_by, AllZip}
-use Rattle.vs_types.specs.declared.depth.Depth.{Depth}
-use Rattle.vs_types.specs.declared.request.Query.{Query}
-use Rattle.nr_core.specs.declared.step.Step.{Step}
+use Rattle.vs_types.specs.declared.addresses.depth.Depth.{Depth}
+use Rattle.vs_types.specs.declared.requests.request.Query.{Query}
+use Rattle.nr_core.specs.declared.runs.step.Step.{Step}
 use Rattle.nr_script.specs.Fed.{EndsIn}
 use Rattle.nr_script.specs.Lines.{Says}
 use Rattle.nr_script.specs.Script.{requests_by, step_in, steps_of}

@@ -2,7 +2,7 @@
 
 ghost use Rattle.std.specs.Prelude.{◌≡◌, [], ◌∷◌, map, Some};
 ghost use Rattle.std.specs.List.{AllZip};
-ghost use Rattle.vs_types.specs.declared.depth.Depth.TheVariants.{Four};
+ghost use Rattle.vs_types.specs.declared.addresses.depth.Depth.TheVariants.{Four};
 ghost use Rattle.nr_script.specs.Examples.{map_it, resolve_it, short_lines, short_script, two_spaces, two_steps};
 ghost use Rattle.nr_script.specs.Lines.{lines, Says};
 ghost use Rattle.nr_script.specs.Script.{IsBadLine, IsScript};

@@ -2,8 +2,8 @@
 
 ghost use Rattle.std.specs.Prelude.{◌≡◌, ℕ, ◌<◌, ◌++◌, List, decimal, map};
 ghost use Rattle.vs_types.specs.Query.{IsQuery};
-ghost use Rattle.vs_types.specs.declared.depth.Depth.{Depth};
-ghost use Rattle.vs_types.specs.declared.request.Query.{Query};
+ghost use Rattle.vs_types.specs.declared.addresses.depth.Depth.{Depth};
+ghost use Rattle.vs_types.specs.declared.requests.request.Query.{Query};
 ghost use Rattle.vs_text.specs.Requests.{request_text};
 ghost use Rattle.vs_text.specs.Words.{space};
 ghost use Rattle.nr_script.specs.Lines.{Says};

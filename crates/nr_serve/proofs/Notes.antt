@@ -12,18 +12,18 @@ use Rattle.std.proofs.lemmas.Bool.Decides.{nat_tests}
 use mathlib.Core.Logic.{dite}
 use native.Mathlib.Decide.{ℕ_discrete}
 use Rattle.vs_types.specs.Config.{Layout}
-use Rattle.vs_types.specs.declared.answer.Answer as given
-use Rattle.vs_types.specs.declared.request.Query.{Query}
+use Rattle.vs_types.specs.declared.requests.answer.Answer as given
+use Rattle.vs_types.specs.declared.requests.request.Query.{Query}
 use Rattle.nr_trace.specs.Calls.{Response, reply_in}
-use Rattle.nr_trace.specs.declared.event.Event.{Event}
-use Rattle.nr_trace.specs.declared.event.Event.TheVariants.{Reply}
+use Rattle.nr_trace.specs.declared.recordings.event.Event.{Event}
+use Rattle.nr_trace.specs.declared.recordings.event.Event.TheVariants.{Reply}
 use Rattle.nr_record.specs.Events.{caller, events_of, is_of}
 use Rattle.nr_record.specs.Pen.{call_by, stamped}
 use Rattle.nr_record.specs.Stamps.{Rise}
 use Rattle.nr_record.specs.declared.stamped.Stamped.{Stamped}
 use Rattle.nr_serve.specs.inside.Calls.{MadeCall, notes_of, reply_notes}
-use Rattle.nr_serve.specs.declared.said.Said.{Said}
-use Rattle.nr_serve.specs.declared.said.Said.TheVariants.{Answer, Stopped}
+use Rattle.nr_serve.specs.declared.endings.said.Said.{Said}
+use Rattle.nr_serve.specs.declared.endings.said.Said.TheVariants.{Answer, Stopped}
 use Rattle.nr_trace.proofs.LawsOfLists.{All-unmap}
 
 abbrev pub stamps : List Stamped → List ℕ

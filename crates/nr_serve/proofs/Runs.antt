@@ -21,7 +21,7 @@ use Rattle.nr_chain.proofs.FoundChains.{right_chain}
 use Rattle.nr_ring.specs.LogHistory.{IsLogHistory, log_after}
 use Rattle.nr_ring.specs.Pass.{Known, TableId, new_pass}
 use Rattle.nr_ring.specs.View.{StartsWith}
-use Rattle.nr_ring.specs.declared.log_event.LogEvent.{LogEvent}
+use Rattle.nr_ring.specs.declared.ring.log_event.LogEvent.{LogEvent}
 use Rattle.nr_ring.proofs.Histories.{beginning_goes_on, begins}
 use Rattle.nr_serve.specs.ChainOfRun.{RunsOn, logs_of, orders_of, run_through}
 use Rattle.nr_serve.specs.Run.{IsLogOf}

@@ -9,26 +9,26 @@ use Rattle.std.proofs.lemmas.Option.{slice_get-get_or}
 use Rattle.vs_types.specs.Config.{Layout}
 use Rattle.vs_types.proofs.Lists.{item_of}
 use Rattle.vs_types.specs.declared.log_entry.LogEntry.{LogEntry}
-use Rattle.vs_types.specs.declared.request.Query.{Query}
-use Rattle.vs_types.specs.declared.depth.Depth.{Depth}
+use Rattle.vs_types.specs.declared.requests.request.Query.{Query}
+use Rattle.vs_types.specs.declared.addresses.depth.Depth.{Depth}
 use Rattle.vs_walk.specs.Dump.{Image}
 use Rattle.nr_trace.specs.Recording.{Recording}
 use Rattle.nr_trace.specs.Parts.{HasFrames}
 use Rattle.nr_trace.specs.Versions.{Follows}
-use Rattle.nr_trace.specs.declared.version.Form.TheVariants as forms
-use Rattle.nr_trace.specs.declared.version.Version.TheVariants.{Segment}
+use Rattle.nr_trace.specs.declared.formats.version.Form.TheVariants as forms
+use Rattle.nr_trace.specs.declared.formats.version.Version.TheVariants.{Segment}
 use Rattle.nr_trace.specs.Orders.{recorded_order}
 use Rattle.nr_trace.specs.Spelling.{SpellsSegment}
-use Rattle.nr_trace.specs.declared.fault.Fault.{Fault}
+use Rattle.nr_trace.specs.declared.refusals.fault.Fault.{Fault}
 use Rattle.nr_joined.specs.Run.{Run}
 use Rattle.nr_audit.specs.Faults.{IsFirstAfter, IsSoundAfter}
 use Rattle.nr_audit.specs.Segments.{run_after, FitsPast, IsBehind, IsKept}
-use Rattle.nr_audit.specs.declared.past.Past.{Past}
+use Rattle.nr_audit.specs.declared.histories.past.Past.{Past}
 use Rattle.nr_chain.specs.Fed.{IsKeptOf}
 use Rattle.nr_ring.specs.LogHistory.{IsLogHistory, Log, log_after}
 use Rattle.nr_ring.specs.Pass.{Known, TableId, new_pass}
 use Rattle.nr_ring.specs.View.{StartsWith}
-use Rattle.nr_ring.specs.declared.log_event.LogEvent.{LogEvent}
+use Rattle.nr_ring.specs.declared.ring.log_event.LogEvent.{LogEvent}
 use Rattle.nr_replicas.specs.Replicas.{OpenState}
 use Rattle.nr_replicas.specs.Settled.{IsDumpOf}
 use Rattle.nr_record.specs.Events.{AreEventsOf}
@@ -37,9 +37,9 @@ use Rattle.nr_serve.specs.Run.{AreAllCallsOf, HasAllOrStopped}
 use Rattle.nr_serve.specs.RunState.{RunState, new_run}
 use Rattle.nr_serve.specs.ChainOfRun.{HasEnded, HasFailed, HasGone, IsOutcomeOf, ran_of}
 use Rattle.nr_serve.specs.SegmentRun.{layout_so_far, AreAllAnswered, HasSeenMore, HaveSeenAnswersFrom, IsAnswer, IsRightSegment, IsSegmentOf}
-use Rattle.nr_serve.specs.declared.said.Said.{Said}
-use Rattle.nr_serve.specs.declared.said.Said.TheVariants.{Stopped}
-use Rattle.nr_serve.specs.declared.segment_outcome.SegmentOutcome.{SegmentOutcome}
+use Rattle.nr_serve.specs.declared.endings.said.Said.{Said}
+use Rattle.nr_serve.specs.declared.endings.said.Said.TheVariants.{Stopped}
+use Rattle.nr_serve.specs.declared.endings.segment_outcome.SegmentOutcome.{SegmentOutcome}
 use Rattle.nr_serve.specs.inside.Calls.{Since, WorkerState, since}
 use Rattle.nr_serve.specs.inside.Segment.{HaveServed, state_of, state_with}
 use Rattle.nr_serve.specs.inside.SegmentEnd.{IsEndOf, MayEnd}

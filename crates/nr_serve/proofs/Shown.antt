@@ -4,7 +4,7 @@ use Rattle.std.specs.Vec.{with_items}
 use Rattle.std.proofs.lemmas.List.{length-map, with_items_is}
 use Rattle.std.specs.Prelude.{IfOk, Result, Ok}
 use Rattle.vs_types.specs.Config.{Layout}
-use Rattle.vs_types.specs.declared.request.Query.{Query}
+use Rattle.vs_types.specs.declared.requests.request.Query.{Query}
 use Rattle.nr_ring.specs.Pass.{Known, TableId}
 use Rattle.nr_trace.specs.Faults.{IsFirstOf}
 use Rattle.nr_trace.specs.Laws.{IsFaultless}
@@ -14,13 +14,13 @@ use Rattle.nr_trace.specs.Spelling.{Spells}
 use Rattle.nr_trace.proofs.LawsOfSpelling.{one_trace}
 use Rattle.nr_audit.specs.Headline.{AreRightWith, IsSpelledWith}
 use Rattle.nr_audit.specs.Verdict.{IsVerdictOf}
-use Rattle.nr_audit.specs.declared.verdict.Verdict.TheVariants.{Yes}
+use Rattle.nr_audit.specs.declared.verdicts.verdict.Verdict.TheVariants.{Yes}
 use Rattle.nr_record.specs.Events.{AreEventsOf}
 use Rattle.nr_record.specs.Pen.{ClockId, PenState}
 use Rattle.nr_serve.specs.Run.{AreAllCallsOf, HaveSeenAnswers, IfRunRefused, IfVerified, IsLogOf, IsRefusedRun, IsTraceOf, IsVerifiedRun}
-use Rattle.nr_serve.specs.declared.outcome.Outcome.{Outcome}
-use Rattle.nr_serve.specs.declared.outcome.Outcome.TheVariants.{Refused, Verified}
-use Rattle.nr_serve.specs.declared.said.Said.{Said}
+use Rattle.nr_serve.specs.declared.endings.outcome.Outcome.{Outcome}
+use Rattle.nr_serve.specs.declared.endings.outcome.Outcome.TheVariants.{Refused, Verified}
+use Rattle.nr_serve.specs.declared.endings.said.Said.{Said}
 use Rattle.nr_serve.specs.inside.Calls.{AreServed, WorkerState, since}
 use Rattle.nr_serve.specs.inside.Ending.{IsWrittenOf, answers_of, passes_of, pens_of}
 use Rattle.nr_serve.proofs.Made.{are_calls, have_seen}

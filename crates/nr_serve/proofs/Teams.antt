@@ -8,7 +8,7 @@ use Rattle.std.proofs.lemmas.List.Elements.{All-map}
 use Rattle.std.proofs.lemmas.List.FromFn.{get_or-range_with_len, length-range_with_len}
 use Rattle.std.proofs.lemmas.List.Sums.{get_or-le-sum_by, sum-map}
 use Rattle.std.proofs.lemmas.Option.{get_or_from_slice_get, slice_get-get_or}
-use Rattle.vs_types.specs.declared.request.Query.{Query}
+use Rattle.vs_types.specs.declared.requests.request.Query.{Query}
 use Rattle.nr_ring.specs.Pass.{Known, TableId}
 use Rattle.nr_record.specs.Pen.{AreAllPens, ClockId, PenState}
 use Rattle.nr_serve.specs.inside.Calls.{AreServed, IsServed, Since, WorkerState, since}

@@ -7,17 +7,17 @@ use Rattle.std.proofs.lemmas.List.Elements.{All-push}
 use Rattle.std.proofs.lemmas.List.Sums.{sum_by-append}
 use Rattle.std.proofs.lemmas.Option.{get_or_from_slice_get, slice_get_within}
 use Rattle.vs_types.specs.Config.{Layout}
-use Rattle.vs_types.specs.declared.answer.Answer as answers
-use Rattle.vs_types.specs.declared.depth.Depth.{Depth}
-use Rattle.vs_types.specs.declared.request.Query.{Query}
-use Rattle.vs_types.specs.declared.request.Query.TheVariants.{Update, Resolve, Access}
+use Rattle.vs_types.specs.declared.requests.answer.Answer as answers
+use Rattle.vs_types.specs.declared.addresses.depth.Depth.{Depth}
+use Rattle.vs_types.specs.declared.requests.request.Query.{Query}
+use Rattle.vs_types.specs.declared.requests.request.Query.TheVariants.{Update, Resolve, Access}
 use Rattle.vs_types.specs.Step.{allow, look}
 use Rattle.nr_ring.specs.Laws.{HasGoneOn}
 use Rattle.nr_ring.specs.LogHistory.{IsLogHistory, Log, log_after}
 use Rattle.nr_ring.specs.Pass.{Known, TableId}
-use Rattle.nr_ring.specs.declared.log_event.LogEvent.{LogEvent}
-use Rattle.nr_ring.specs.declared.view.View.{View}
-use Rattle.nr_trace.specs.declared.event.Event.TheVariants.{Reply}
+use Rattle.nr_ring.specs.declared.ring.log_event.LogEvent.{LogEvent}
+use Rattle.nr_ring.specs.declared.ring.view.View.{View}
+use Rattle.nr_trace.specs.declared.recordings.event.Event.TheVariants.{Reply}
 use Rattle.nr_record.specs.Pen.{ClockId, PenState, call_by, calls_in, is_call, stamped, with_call, with_reply}
 use Rattle.nr_record.specs.declared.stamped.Stamped.{Stamped}
 use Rattle.nr_replicas.specs.Replicas.{HasHeard}
@@ -25,8 +25,8 @@ use Rattle.nr_replicas.proofs.Hearing.{heard_on}
 use Rattle.nr_replicas.proofs.Logs.{answer_stays, read_stays}
 use Rattle.nr_serve.specs.Run.{StopsLast}
 use Rattle.nr_serve.specs.inside.Calls.{IsServed, IsTrueAt, IsTrueOf, MadeCall, Since, notes_of}
-use Rattle.nr_serve.specs.declared.said.Said.{Said}
-use Rattle.nr_serve.specs.declared.said.Said.TheVariants.{Answer, Stopped}
+use Rattle.nr_serve.specs.declared.endings.said.Said.{Said}
+use Rattle.nr_serve.specs.declared.endings.said.Said.TheVariants.{Answer, Stopped}
 use Rattle.nr_serve.specs.SegmentRun.{IsAnswer}
 use Rattle.nr_serve.specs.inside.Working.{HasCalled, IsNamed, IsReady, IsUnderWay}
 

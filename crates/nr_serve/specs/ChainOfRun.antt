@@ -1,17 +1,17 @@
 -- A run in segments as a whole: one chain, which is right, and one log.
 use Rattle.std.specs.Prelude.{◌≡◌, ℕ, ◌++◌, List, [], ◌∷◌, Option, Some, flat_map, map}
-use Rattle.vs_types.specs.declared.request.Query.{Query}
+use Rattle.vs_types.specs.declared.requests.request.Query.{Query}
 use Rattle.nr_trace.specs.Recording.{Recording}
-use Rattle.nr_trace.specs.declared.fault.Fault.{Fault}
+use Rattle.nr_trace.specs.declared.refusals.fault.Fault.{Fault}
 use Rattle.nr_joined.specs.Run.{Run}
 use Rattle.nr_audit.specs.Segments.{run_after}
 use Rattle.nr_ring.specs.Pass.{Known}
-use Rattle.nr_ring.specs.declared.log_event.LogEvent.{LogEvent}
+use Rattle.nr_ring.specs.declared.ring.log_event.LogEvent.{LogEvent}
 use Rattle.nr_serve.specs.RunState.{RunState}
 use Rattle.nr_serve.specs.SegmentRun.{AreAllAnswered, GoesOn, IsRightSegment, IsWrongSegment, Ran}
-use Rattle.nr_serve.specs.declared.said.Said.{Said}
-use Rattle.nr_serve.specs.declared.segment_outcome.SegmentOutcome.{SegmentOutcome}
-use Rattle.nr_serve.specs.declared.segment_outcome.SegmentOutcome.TheVariants.{Right, Last, Wrong}
+use Rattle.nr_serve.specs.declared.endings.said.Said.{Said}
+use Rattle.nr_serve.specs.declared.endings.segment_outcome.SegmentOutcome.{SegmentOutcome}
+use Rattle.nr_serve.specs.declared.endings.segment_outcome.SegmentOutcome.TheVariants.{Right, Last, Wrong}
 
 -- the order of each segment
 abbrev pub orders_of : List Ran → List (List ℕ)

@@ -5,7 +5,7 @@ use Rattle.nr_chain.specs.Fed.{Kept}
 use Rattle.nr_ring.specs.LogHistory.{IsLogHistory, log_after}
 use Rattle.nr_ring.specs.Pass.{Known, TableId, new_pass}
 use Rattle.nr_ring.specs.View.{StartsWith}
-use Rattle.nr_ring.specs.declared.log_event.LogEvent.{LogEvent}
+use Rattle.nr_ring.specs.declared.ring.log_event.LogEvent.{LogEvent}
 
 -- how the run is laid out, and what the chain of its segments has come to, if there are some; its log, how many entries that had at the
 -- last cut, and what the threads' passes have seen of it

@@ -3,13 +3,13 @@
 use Rattle.std.specs.Prelude.{◌≡◌, ℕ, ◌+◌, ◌≤◌, List, All, Option, Some, drop, length, map, option_map, slice_get, ⊤}
 use Rattle.std.specs.List.{AllZip}
 use Rattle.vs_types.specs.Config.{Layout}
-use Rattle.vs_types.specs.declared.op.Action.{Action}
-use Rattle.vs_types.specs.declared.request.Query.{Query}
+use Rattle.vs_types.specs.declared.requests.op.Action.{Action}
+use Rattle.vs_types.specs.declared.requests.request.Query.{Query}
 use Rattle.nr_trace.specs.Calls.{Invocation, IsRead, Response, call_of, operation_of, reply_to}
 use Rattle.nr_trace.specs.Orders.{recorded_order}
 use Rattle.nr_trace.specs.Recording.{Recording}
 use Rattle.nr_trace.specs.Spelling.{SpellsSegment}
-use Rattle.nr_trace.specs.declared.fault.Fault.{Fault}
+use Rattle.nr_trace.specs.declared.refusals.fault.Fault.{Fault}
 use Rattle.nr_joined.specs.Run.{Run}
 use Rattle.nr_audit.specs.Faults.{IsFirstAfter, IsSoundAfter}
 use Rattle.nr_audit.specs.Segments.{run_after}
@@ -17,11 +17,11 @@ use Rattle.nr_chain.specs.Fed.{IsKeptOf, Kept}
 use Rattle.nr_ring.specs.LogHistory.{IsLogHistory, log_after}
 use Rattle.nr_ring.specs.Pass.{Known}
 use Rattle.nr_ring.specs.View.{StartsWith}
-use Rattle.nr_ring.specs.declared.log_event.LogEvent.{LogEvent}
+use Rattle.nr_ring.specs.declared.ring.log_event.LogEvent.{LogEvent}
 use Rattle.nr_serve.specs.Run.{AreAllCallsOf}
 use Rattle.nr_serve.specs.RunState.{RunState}
-use Rattle.nr_serve.specs.declared.said.Said.{Said}
-use Rattle.nr_serve.specs.declared.said.Said.TheVariants.{Answer, Stopped}
+use Rattle.nr_serve.specs.declared.endings.said.Said.{Said}
+use Rattle.nr_serve.specs.declared.endings.said.Said.TheVariants.{Answer, Stopped}
 
 -- how the segments so far are laid out, if there are some
 abbrev pub layout_so_far : Option Kept → Option Layout

@@ -4,7 +4,7 @@ ghost use Rattle.vs_types.specs.Config.{Layout};
 ghost use Rattle.nr_chain.specs.Fed.{IsKeptOf};
 ghost use Rattle.nr_chain.specs.Headline.{IsRightChain};
 ghost use Rattle.nr_ring.specs.Pass.{Known, TableId};
-ghost use Rattle.nr_ring.specs.declared.log_event.LogEvent.{LogEvent};
+ghost use Rattle.nr_ring.specs.declared.ring.log_event.LogEvent.{LogEvent};
 ghost use Rattle.nr_serve.specs.ChainOfRun.{logs_of, orders_of, run_through, RunsOn};
 ghost use Rattle.nr_serve.specs.Run.{IsLogOf};
 ghost use Rattle.nr_serve.specs.RunState.{HasOneLog, new_run, RunState};

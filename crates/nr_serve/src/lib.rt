@@ -3,29 +3,16 @@
 //! A run that is verified has a trace that the auditor found right, and that trace is what its threads asked and were answered.
 #![tactic(auto)]
 
-mod always_go;
-mod chain_run;
-mod ending;
-mod job;
+mod endings;
+mod instances;
 pub mod laws;
-mod no_segment;
-mod no_thread;
-mod outcome;
-mod promise;
-mod running;
-mod said;
-mod segment_ending;
-mod segment_outcome;
-mod serving;
-mod team;
-mod threads;
-mod worker;
+mod threading;
 
-pub use always_go::AlwaysGo;
-pub use chain_run::ChainRun;
-pub use no_segment::NoSegment;
-pub use no_thread::NoThread;
-pub use outcome::{Answers, Outcome, Passes, TraceBytes};
-pub use running::run;
-pub use said::Said;
-pub use segment_outcome::SegmentOutcome;
+pub use endings::outcome::{Answers, Outcome, Passes, TraceBytes};
+pub use endings::said::Said;
+pub use endings::segment_outcome::SegmentOutcome;
+pub use instances::always_go::AlwaysGo;
+pub use instances::no_segment::NoSegment;
+pub use instances::no_thread::NoThread;
+pub use threading::chain_run::ChainRun;
+pub use threading::running::run;

@@ -4,7 +4,7 @@
 /// answers shows it; who collects or polls then knows it.
 pub trait SlotRule {
     ghost use Rattle.std.specs.Prelude.{ℕ};
-    ghost use Rattle.vs_types.specs.declared.op.Op.{Op};
+    ghost use Rattle.vs_types.specs.declared.requests.op.Op.{Op};
     ghost use Rattle.nr_slots.specs.Updates.{Answered};
 
     /// A thread's number, that of its call, and its update.

@@ -2,7 +2,7 @@
 use Rattle.std.proofs.Common.{◌≡◌, ℕ, ◌+◌, ◌*◌, ◌<◌, ◌≤◌, ◌⊎◌, inl, inr, List, get_or, slice_get, length, Option, Some, None, Contains, refl, sym, ap, ◌∙◌, subst, arith}
 use Rattle.std.proofs.lemmas.Bool.{cases_lt}
 use Rattle.std.proofs.lemmas.Option.{same_Some, slice_get_within, slice_get-get_or}
-use Rattle.vs_types.specs.declared.page.Page.{Page}
+use Rattle.vs_types.specs.declared.addresses.page.Page.{Page}
 use Rattle.nr_touch.specs.Releases.{FindsReached, IsReachable, IsReachedFrom}
 use Rattle.nr_touch.specs.inside.Joined.{Behind}
 use Rattle.nr_touch.specs.inside.Reached.{probe_at, FindsAddress, IsFirstFrame, IsLower, IsMetAt, LeadsBelow, LeadsSo}

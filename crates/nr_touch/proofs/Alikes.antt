@@ -2,8 +2,8 @@
 use Rattle.std.proofs.Common.{◌≡◌, ℕ, ◌+◌, ◌-◌, ◌%◌, ◌<◌, ◌≤◌, inl, inr, List, Contains, get_or, length, min, arith}
 use Rattle.std.proofs.lemmas.Bool.{cases_lt}
 use Rattle.vs_types.specs.Page.{bytes_of, level_of}
-use Rattle.vs_types.specs.declared.page.Size.{Size}
-use Rattle.vs_types.specs.declared.page.Size.TheVariants.{K4, M2, G1}
+use Rattle.vs_types.specs.declared.addresses.page.Size.{Size}
+use Rattle.vs_types.specs.declared.addresses.page.Size.TheVariants.{K4, M2, G1}
 use Rattle.vs_types.proofs.Pages.{covers_means, level_at_most}
 use Rattle.nr_touch.specs.inside.Alike.{AreAlikeTo, IsAlikeIn, IsBefore}
 use Rattle.nr_touch.specs.inside.Bounds.{IsBoundary}

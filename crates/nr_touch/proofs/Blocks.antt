@@ -1,9 +1,9 @@
 -- A page that shares memory with a release leads into a block that the release is about.
 use Rattle.std.proofs.Common.{◌≡◌, ℕ, ◌+◌, ◌*◌, ◌-◌, ◌/◌, ◌%◌, ◌<◌, ◌≤◌, ◌⊎◌, inl, inr, refl, sym, ap, ◌∙◌, arith}
 use Rattle.vs_types.specs.Page.{bytes_of}
-use Rattle.vs_types.specs.declared.page.Page.{Page}
-use Rattle.vs_types.specs.declared.page.Size.{Size}
-use Rattle.vs_types.specs.declared.page.Size.TheVariants.{K4, M2, G1}
+use Rattle.vs_types.specs.declared.addresses.page.Page.{Page}
+use Rattle.vs_types.specs.declared.addresses.page.Size.{Size}
+use Rattle.vs_types.specs.declared.addresses.page.Size.TheVariants.{K4, M2, G1}
 use Rattle.nr_touch.specs.Releases.{HasPhys}
 use Rattle.nr_touch.specs.inside.Changes.{number_at}
 use Rattle.nr_touch.specs.inside.Blocks.{whole, IsBlockFor, IsBlockOf}

@@ -16,8 +16,8 @@ use Rattle.std.proofs.lemmas.List.{get_or_default}
 use Rattle.std.proofs.lemmas.List.Elements.{Contains-push_cases}
 use Rattle.std.proofs.lemmas.Map.Lookups.{CmpEqualImpliesEq, exact_pairs, exact_unsigned}
 use Rattle.std.proofs.lemmas.Map.Views.{btree_set_contains_iff, range_contains-from_IsInRange, tells_apart}
-use Rattle.vs_types.specs.declared.page.Page.{Page}
-use Rattle.vs_types.specs.declared.page.Size.TheVariants.{K4, M2, G1}
+use Rattle.vs_types.specs.declared.addresses.page.Page.{Page}
+use Rattle.vs_types.specs.declared.addresses.page.Size.TheVariants.{K4, M2, G1}
 use Rattle.nr_touch.specs.inside.Blocks.{blocks_at, IsBlockOf}
 use Rattle.nr_touch.specs.inside.Indexed.{row_cmp, IsIndexedAs}
 use Rattle.nr_touch.specs.declared.releases.index.Index.{Index}

@@ -5,10 +5,10 @@ use Rattle.std.proofs.lemmas.Bool.{cases_eq}
 use Rattle.vs_types.specs.Page.{bytes_of}
 use Rattle.vs_types.specs.Space.{Space, Holds, IsSpace, page_at}
 use Rattle.vs_types.specs.Step.{look, look_in_page}
-use Rattle.vs_types.specs.declared.answer.Answer.TheVariants.{Mapped}
-use Rattle.vs_types.specs.declared.depth.Depth.{Depth}
-use Rattle.vs_types.specs.declared.page.Page.{Page}
-use Rattle.vs_types.specs.declared.page.Size.{Size}
+use Rattle.vs_types.specs.declared.requests.answer.Answer.TheVariants.{Mapped}
+use Rattle.vs_types.specs.declared.addresses.depth.Depth.{Depth}
+use Rattle.vs_types.specs.declared.addresses.page.Page.{Page}
+use Rattle.vs_types.specs.declared.addresses.page.Size.{Size}
 use Rattle.vs_types.proofs.Maps.{get-remove_other}
 use Rattle.vs_types.proofs.Pages.{covers_base, covers_means, same_aligned, same_page}
 use Rattle.vs_types.proofs.Spaces.{page_at_means}

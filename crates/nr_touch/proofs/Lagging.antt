@@ -2,10 +2,10 @@
 use Rattle.std.proofs.Common.{◌≡◌, ℕ, ◌+◌, ◌-◌, ◌<◌, ◌≤◌, Bool, true, false, cond, None, Option, Some, refl, sym, ap, ◌∙◌, arith}
 use Rattle.vs_types.specs.Access.{allows, fault_code}
 use Rattle.vs_types.specs.Step.{allow_in_page}
-use Rattle.vs_types.specs.declared.access.Access.{Access}
-use Rattle.vs_types.specs.declared.access.Mode.{Mode}
-use Rattle.vs_types.specs.declared.answer.Answer.TheVariants.{Allowed, Fault}
-use Rattle.vs_types.specs.declared.page.Page.{Page}
+use Rattle.vs_types.specs.declared.addresses.access.Access.{Access}
+use Rattle.vs_types.specs.declared.addresses.access.Mode.{Mode}
+use Rattle.vs_types.specs.declared.requests.answer.Answer.TheVariants.{Allowed, Fault}
+use Rattle.vs_types.specs.declared.addresses.page.Page.{Page}
 use Rattle.nr_touch.specs.Touches.{IsFaultOfLagging, IsFaultOfNone, page_after}
 use Rattle.nr_touch.specs.declared.touches.joined.Joined.{Joined}
 use Rattle.nr_touch.specs.declared.touches.touch.Touch.{Touch}

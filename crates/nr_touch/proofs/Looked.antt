@@ -8,13 +8,13 @@ use Rattle.vs_types.specs.Access.{allows, fault_code}
 use Rattle.vs_types.specs.Codes.{rights_code}
 use Rattle.vs_types.specs.Page.{bytes_of, level_of}
 use Rattle.vs_types.specs.Step.{allow_in_page}
-use Rattle.vs_types.specs.declared.access.Access.{Access}
-use Rattle.vs_types.specs.declared.access.Mode.{Mode}
-use Rattle.vs_types.specs.declared.answer.Answer.{Answer}
-use Rattle.vs_types.specs.declared.answer.Answer.TheVariants.{Allowed, Fault}
-use Rattle.vs_types.specs.declared.page.Rights.{Rights}
-use Rattle.vs_types.specs.declared.page.Size.{Size}
-use Rattle.vs_types.specs.declared.page.Size.TheVariants.{K4, M2, G1}
+use Rattle.vs_types.specs.declared.addresses.access.Access.{Access}
+use Rattle.vs_types.specs.declared.addresses.access.Mode.{Mode}
+use Rattle.vs_types.specs.declared.requests.answer.Answer.{Answer}
+use Rattle.vs_types.specs.declared.requests.answer.Answer.TheVariants.{Allowed, Fault}
+use Rattle.vs_types.specs.declared.addresses.page.Rights.{Rights}
+use Rattle.vs_types.specs.declared.addresses.page.Size.{Size}
+use Rattle.vs_types.specs.declared.addresses.page.Size.TheVariants.{K4, M2, G1}
 use Rattle.nr_trace.proofs.LawsOfUnits.{rights_from, rights_back}
 use Rattle.nr_touch.specs.declared.changes.change.Change.{Change}
 use Rattle.nr_touch.specs.declared.changes.change.PlacedChange.{PlacedChange}

@@ -13,8 +13,8 @@ use Rattle.std.proofs.lemmas.Option.{same_Some}
 use Rattle.nr_trace.specs.Recording.{Recording}
 use Rattle.nr_trace.specs.Calls.{Answers, Response, reply_in}
 use Rattle.nr_trace.specs.Orders.{below}
-use Rattle.nr_trace.specs.declared.event.Event.{Event}
-use Rattle.nr_trace.specs.declared.event.Event.TheVariants.{Reply}
+use Rattle.nr_trace.specs.declared.recordings.event.Event.{Event}
+use Rattle.nr_trace.specs.declared.recordings.event.Event.TheVariants.{Reply}
 use Rattle.nr_trace.proofs.LawsOfCalls.{answers_from, reply_in_event, reply_that_answers}
 use Rattle.nr_touch.specs.Beside.{is_over, is_reply_to}
 use Rattle.nr_touch.specs.Replies.{AreReplies}

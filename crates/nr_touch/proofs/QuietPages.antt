@@ -3,7 +3,7 @@ use Rattle.std.proofs.Common.{◌≡◌, ℕ, ◌<◌, ◌≤◌, ◌⊎◌, inl
 use Rattle.std.proofs.lemmas.Bool.{cases_lt, cases_order}
 use Rattle.vs_types.specs.Space.{Space}
 use Rattle.vs_types.specs.Step.{allow_in_page}
-use Rattle.vs_types.specs.declared.page.Page.{Page}
+use Rattle.vs_types.specs.declared.addresses.page.Page.{Page}
 use Rattle.nr_trace.specs.Recording.{Recording}
 use Rattle.nr_trace.specs.Calls.{Answers, IsUpdate, reply_to}
 use Rattle.nr_trace.specs.Orders.{floor}

@@ -9,12 +9,12 @@ use Rattle.vs_types.specs.Access.{allows, fault_code}
 use Rattle.vs_types.specs.Page.{bytes_of, covers}
 use Rattle.vs_types.specs.Space.{Space, page_at, pages}
 use Rattle.vs_types.specs.Step.{allow_in_page}
-use Rattle.vs_types.specs.declared.access.Access.{Access}
-use Rattle.vs_types.specs.declared.access.Access.TheVariants.{Read}
-use Rattle.vs_types.specs.declared.access.Mode.{Mode}
-use Rattle.vs_types.specs.declared.access.Mode.TheVariants.{Supervisor}
-use Rattle.vs_types.specs.declared.answer.Answer.TheVariants.{Allowed, Fault}
-use Rattle.vs_types.specs.declared.page.Page.{Page}
+use Rattle.vs_types.specs.declared.addresses.access.Access.{Access}
+use Rattle.vs_types.specs.declared.addresses.access.Access.TheVariants.{Read}
+use Rattle.vs_types.specs.declared.addresses.access.Mode.{Mode}
+use Rattle.vs_types.specs.declared.addresses.access.Mode.TheVariants.{Supervisor}
+use Rattle.vs_types.specs.declared.requests.answer.Answer.TheVariants.{Allowed, Fault}
+use Rattle.vs_types.specs.declared.addresses.page.Page.{Page}
 use Rattle.vs_types.proofs.Pages.{covers_means}
 use Rattle.vs_types.proofs.Spaces.{holds_listed, page_at_means}
 use Rattle.nr_trace.specs.Orders.{space_from}

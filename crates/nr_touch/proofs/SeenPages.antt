@@ -2,8 +2,8 @@
 use Rattle.std.proofs.Common.{◌∙◌, ◌≡◌, ℕ, ◌++◌, ◌⊎◌, inl, inr, List, [], map, Contains, sym, subst}
 use Rattle.std.proofs.lemmas.List.Elements.{Contains-append_cases, Contains-append_left, Contains-append_right}
 use Rattle.vs_types.specs.Space.{Space, pages, IsSpace}
-use Rattle.vs_types.specs.declared.depth.Depth.{Depth}
-use Rattle.vs_types.specs.declared.page.Page.{Page}
+use Rattle.vs_types.specs.declared.addresses.depth.Depth.{Depth}
+use Rattle.vs_types.specs.declared.addresses.page.Page.{Page}
 use Rattle.vs_types.proofs.Spaces.{holds_listed}
 use Rattle.nr_touch.specs.inside.Columns.{IsNumbered}
 use Rattle.nr_touch.specs.inside.Joined.{IsBuilt}

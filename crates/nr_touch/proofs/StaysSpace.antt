@@ -7,16 +7,16 @@ use Rattle.vs_types.specs.Config.{Layout}
 use Rattle.vs_types.specs.Operation.{IsAction}
 use Rattle.vs_types.specs.Space.{Space, IsSpace}
 use Rattle.vs_types.specs.Step.{step, after_all}
-use Rattle.vs_types.specs.declared.op.Action.{Action}
-use Rattle.vs_types.specs.declared.request.Query.TheVariants.{Update}
+use Rattle.vs_types.specs.declared.requests.op.Action.{Action}
+use Rattle.vs_types.specs.declared.requests.request.Query.TheVariants.{Update}
 use Rattle.vs_types.proofs.Steps.{step_space}
 use Rattle.nr_trace.specs.Recording.{Recording, IsEvent, IsRecording}
 use Rattle.nr_trace.specs.Calls.{Invocation, made_by, request_in, operation_in, operation_of}
 use Rattle.nr_trace.specs.Orders.{operations, space_from}
-use Rattle.nr_trace.specs.declared.event.Event.{Event}
-use Rattle.nr_trace.specs.declared.event.Event.TheVariants.{Call}
-use Rattle.nr_trace.specs.declared.event.Asked.TheVariants.{Request}
-use Rattle.nr_trace.specs.declared.version.Version.{Version}
+use Rattle.nr_trace.specs.declared.recordings.event.Event.{Event}
+use Rattle.nr_trace.specs.declared.recordings.event.Event.TheVariants.{Call}
+use Rattle.nr_trace.specs.declared.recordings.event.Asked.TheVariants.{Request}
+use Rattle.nr_trace.specs.declared.formats.version.Version.{Version}
 
 asked_fits : (version : Version) (layout : Layout) (event : Event) (action : Action) → IsEvent version layout event
     → option_and_then operation_in (option_and_then (λ (made : Invocation). request_in made.asked) (made_by event)) ≡ Some action → IsAction layout.depth action

@@ -10,7 +10,7 @@ use Rattle.std.proofs.lemmas.Option.{same_Some, slice_get_within}
 use Rattle.std.proofs.lemmas.Bool.{cases_lt}
 use Rattle.vs_types.specs.Space.{Space, page_at}
 use Rattle.vs_types.specs.Step.{allow, allow_in_page}
-use Rattle.vs_types.specs.declared.page.Page.{Page}
+use Rattle.vs_types.specs.declared.addresses.page.Page.{Page}
 use Rattle.nr_trace.specs.Recording.{Recording}
 use Rattle.nr_trace.specs.Orders.{space_from}
 use Rattle.nr_touch.specs.Touches.{page_after, ChangesLook, IsAllowedPrefix, IsAnsweredAt, IsAnsweredInTime, IsMadeAfter}

@@ -1,7 +1,7 @@
 -- Why a right touch is right: what excuses it, if it needs an excuse.
 use Rattle.std.specs.Prelude.{◌≡◌, ℕ, ◌<◌, ◌≤◌, ◌⊎◌, List, length, slice_get, Option, None, Some}
 use Rattle.vs_types.specs.Space.{Space}
-use Rattle.vs_types.specs.declared.answer.Answer.TheVariants as answers
+use Rattle.vs_types.specs.declared.requests.answer.Answer.TheVariants as answers
 use Rattle.nr_trace.specs.Recording.{Recording}
 use Rattle.nr_joined.specs.Joined.{joined_traces}
 use Rattle.nr_joined.specs.Run.{Run}

@@ -2,8 +2,8 @@
 use Rattle.std.specs.Prelude.{◌≡◌, ℕ, ◌↔◌, ◌++◌, ◌&&◌, ◌||◌, if◌then◌else◌, not, Bool, false, List, [], ◌∷◌, Option, Contains}
 use Rattle.vs_types.specs.Page.{covers}
 use Rattle.vs_types.specs.Step.{look_in_page}
-use Rattle.vs_types.specs.declared.answer.Answer.{Answer}
-use Rattle.vs_types.specs.declared.page.Page.{Page}
+use Rattle.vs_types.specs.declared.requests.answer.Answer.{Answer}
+use Rattle.vs_types.specs.declared.addresses.page.Page.{Page}
 use Rattle.nr_touch.specs.Tails.{ends_look, IsLeft}
 use Rattle.nr_touch.specs.inside.Changes.{page_before}
 use Rattle.nr_touch.specs.declared.touches.tail.Left.{Left}

@@ -2,7 +2,7 @@
 use Rattle.std.specs.Prelude.{◌≡◌, ℕ, ◌+◌, ◌<◌, ◌≤◌, ◌⊎◌, false, List, slice_get, Option, Some, None, Contains}
 use Rattle.vs_types.specs.Page.{bytes_of}
 use Rattle.vs_types.specs.Space.{Space}
-use Rattle.vs_types.specs.declared.answer.Answer.TheVariants.{Allowed}
+use Rattle.vs_types.specs.declared.requests.answer.Answer.TheVariants.{Allowed}
 use Rattle.nr_trace.specs.Recording.{IsMemory, Recording}
 use Rattle.nr_joined.specs.Run.{Run}
 use Rattle.nr_touch.specs.Touches.{IsRightBehind}

@@ -19,11 +19,11 @@ use Rattle.vs_types.specs.declared.limits.TheConstants.{FRAMES}
 use Rattle.nr_trace.specs.Spelling.{magic, version_word, counts, counts_of, dump_head, spelling, start_units, SpellsAs, log_word, event, dump, frame_number}
 use Rattle.nr_trace.specs.Spelling.{frame_words}
 use Rattle.nr_trace.specs.FirstFault.{IsCounts, IsDumpHead, IsNext, magic_of}
-use Rattle.nr_trace.specs.declared.version.Version.{Version}
-use Rattle.nr_trace.specs.declared.version.Version.TheVariants.{Segment}
-use Rattle.nr_trace.specs.declared.version.Form.{Form}
-use Rattle.nr_trace.specs.declared.fields.Counts.{Counts}
-use Rattle.nr_trace.specs.declared.fields.DumpHead.{DumpHead}
+use Rattle.nr_trace.specs.declared.formats.version.Version.{Version}
+use Rattle.nr_trace.specs.declared.formats.version.Version.TheVariants.{Segment}
+use Rattle.nr_trace.specs.declared.formats.version.Form.{Form}
+use Rattle.nr_trace.specs.declared.formats.fields.Counts.{Counts}
+use Rattle.nr_trace.specs.declared.formats.fields.DumpHead.{DumpHead}
 use Rattle.nr_trace.proofs.LawsOfSpelling.{Frame, FrameFits, frame, magic_is}
 use Rattle.nr_trace.proofs.LawsOfUnits.{few_of_start}
 use Rattle.nr_trace.proofs.LawsOfFormat.{RisesFrom}

@@ -5,10 +5,10 @@ use Rattle.std.proofs.lemmas.Nat.{from_be_bytes-to_be_bytes_4}
 use Rattle.nr_trace.specs.Versions.{most_start}
 use Rattle.nr_trace.specs.Spelling.{start_count}
 use Rattle.nr_trace.specs.inside.Reading.{SpellsCounts, SpellsHead}
-use Rattle.nr_trace.specs.declared.version.Version.{Version}
-use Rattle.nr_trace.specs.declared.version.Version.TheVariants.{Segment}
-use Rattle.nr_trace.specs.declared.fields.Counts.{Counts}
-use Rattle.nr_trace.specs.declared.fields.DumpHead.{DumpHead}
+use Rattle.nr_trace.specs.declared.formats.version.Version.{Version}
+use Rattle.nr_trace.specs.declared.formats.version.Version.TheVariants.{Segment}
+use Rattle.nr_trace.specs.declared.formats.fields.Counts.{Counts}
+use Rattle.nr_trace.specs.declared.formats.fields.DumpHead.{DumpHead}
 use Rattle.nr_trace.proofs.LawsOfUnits.{few_of, number_32, number_64}
 
 abbrev pub counts_bytes : ℕ → ℕ → ℕ → ℕ → ℕ → ℕ → List ℕ → List ℕ

@@ -11,21 +11,21 @@ use Rattle.vs_types.specs.Frame.{IsFrame}
 use Rattle.nr_trace.specs.Recording.{IsImage}
 use Rattle.nr_trace.specs.Spelling.{dump_head, frame_number, frames}
 use Rattle.nr_trace.specs.inside.Reading.{SpellsHead}
-use Rattle.nr_trace.specs.declared.fields.DumpHead.{DumpHead}
+use Rattle.nr_trace.specs.declared.formats.fields.DumpHead.{DumpHead}
 use Rattle.nr_trace.specs.FirstFault.{AtFrames, AtDumps, AtLog, AtStart, IsDumpHead, and_then, of_dump, of_start, refusal_at}
 use Rattle.vs_types.specs.Config.{Layout}
 use Rattle.nr_trace.specs.inside.Progress.{HasRead, AreInRange, IsOwner, IsReady, BehindDumps, Ahead}
 use Rattle.nr_trace.specs.inside.Progress.{front_with, header_units, opened_spelling, said, whole_of, whole_spelling}
-use Rattle.nr_trace.specs.declared.refusal.Refusal.{Refusal}
-use Rattle.nr_trace.specs.declared.refusal.TraceUnit.TheVariants as units
-use Rattle.nr_trace.specs.declared.fault.Format.TheVariants.{BadCount}
+use Rattle.nr_trace.specs.declared.refusals.refusal.Refusal.{Refusal}
+use Rattle.nr_trace.specs.declared.refusals.refusal.TraceUnit.TheVariants as units
+use Rattle.nr_trace.specs.declared.refusals.fault.Format.TheVariants.{BadCount}
 use Rattle.nr_trace.specs.declared.reading.reader.Parts.{Parts}
 use Rattle.nr_trace.specs.declared.reading.reader.Reader.{Reader}
 use Rattle.nr_trace.specs.declared.reading.reader.Reader.TheVariants.{Dumps, Frame, Root}
 use Rattle.nr_trace.specs.declared.reading.reader.Owner.{Owner}
 use Rattle.nr_trace.specs.declared.reading.reader.Owner.TheVariants as owners
-use Rattle.nr_trace.specs.declared.fields.Counts.{Counts}
-use Rattle.nr_trace.specs.declared.version.Version.{Version}
+use Rattle.nr_trace.specs.declared.formats.fields.Counts.{Counts}
+use Rattle.nr_trace.specs.declared.formats.version.Version.{Version}
 use Rattle.vs_types.specs.declared.limits.TheConstants.{FRAMES}
 use Rattle.nr_trace.proofs.LawsOfUnits.{few_of, few_of_start}
 use Rattle.nr_trace.proofs.Units.{refused, passed, goes_on}

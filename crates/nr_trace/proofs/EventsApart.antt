@@ -5,22 +5,22 @@ use Rattle.std.specs.Int.{w8, w16, w32, w64, to_be_bytes, from_be_bytes}
 use Rattle.std.proofs.lemmas.Bool.{ne_eqb}
 use Rattle.std.proofs.lemmas.Nat.{from_be_bytes-to_be_bytes_2, from_be_bytes-to_be_bytes_4, from_be_bytes-to_be_bytes_8}
 use Rattle.vs_types.specs.Config.{Layout}
-use Rattle.vs_types.specs.declared.depth.Depth.{Depth}
+use Rattle.vs_types.specs.declared.addresses.depth.Depth.{Depth}
 use Rattle.vs_types.specs.Fields.{request_fields}
-use Rattle.vs_types.specs.declared.page.Size.{Size}
-use Rattle.vs_types.specs.declared.request.Query.{Query}
-use Rattle.vs_types.specs.declared.request.Query.TheVariants.{Access}
-use Rattle.vs_types.specs.declared.fields.RequestFields.{RequestFields}
-use Rattle.vs_types.specs.declared.answer.Answer.{Answer}
+use Rattle.vs_types.specs.declared.addresses.page.Size.{Size}
+use Rattle.vs_types.specs.declared.requests.request.Query.{Query}
+use Rattle.vs_types.specs.declared.requests.request.Query.TheVariants.{Access}
+use Rattle.vs_types.specs.declared.requests.fields.RequestFields.{RequestFields}
+use Rattle.vs_types.specs.declared.requests.answer.Answer.{Answer}
 use Rattle.vs_types.proofs.LogWords.{size_code_low}
 use Rattle.nr_trace.specs.Recording.{IsAskable, IsEvent}
 use Rattle.nr_trace.specs.Spelling.{answer_fields, asked_fields, event}
-use Rattle.nr_trace.specs.declared.fields.AnswerFields.{AnswerFields}
-use Rattle.nr_trace.specs.declared.version.Version.{Version}
-use Rattle.nr_trace.specs.declared.event.Event.{Event}
-use Rattle.nr_trace.specs.declared.event.Event.TheVariants.{Call, Reply}
-use Rattle.nr_trace.specs.declared.event.Asked.{Asked}
-use Rattle.nr_trace.specs.declared.event.Asked.TheVariants.{Request, Release, Touch}
+use Rattle.nr_trace.specs.declared.formats.fields.AnswerFields.{AnswerFields}
+use Rattle.nr_trace.specs.declared.formats.version.Version.{Version}
+use Rattle.nr_trace.specs.declared.recordings.event.Event.{Event}
+use Rattle.nr_trace.specs.declared.recordings.event.Event.TheVariants.{Call, Reply}
+use Rattle.nr_trace.specs.declared.recordings.event.Asked.{Asked}
+use Rattle.nr_trace.specs.declared.recordings.event.Asked.TheVariants.{Request, Release, Touch}
 use Rattle.nr_trace.proofs.LawsOfUnits.{ToldApart, IsWide, apart_by, length-event, request_from, request_back, request_fits, touch_back, answer_from}
 use Rattle.nr_trace.proofs.LawsOfUnits.{answer_back, answer_fits, size_back, size_from}
 

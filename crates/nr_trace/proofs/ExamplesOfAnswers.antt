@@ -7,12 +7,12 @@ use Rattle.std.specs.Ordering.{nat_cmp}
 use Rattle.vs_types.specs.Space.{Space, no_pages, page_at, least, least_overlapped, tables_of_levels, table_count}
 use Rattle.vs_types.specs.Page.{covers, overlaps}
 use Rattle.vs_types.specs.Step.{Stepped, step, look, allow}
-use Rattle.vs_types.specs.declared.depth.Depth.TheVariants.{Four}
-use Rattle.vs_types.specs.declared.page.Size.TheVariants.{K4}
-use Rattle.vs_types.specs.declared.access.Mode.TheVariants.{User}
-use Rattle.vs_types.specs.declared.access.Access.TheVariants.{Write}
-use Rattle.vs_types.specs.declared.page.Page.{Page}
-use Rattle.vs_types.specs.declared.answer.Answer.TheVariants.{Done, Allowed}
+use Rattle.vs_types.specs.declared.addresses.depth.Depth.TheVariants.{Four}
+use Rattle.vs_types.specs.declared.addresses.page.Size.TheVariants.{K4}
+use Rattle.vs_types.specs.declared.addresses.access.Mode.TheVariants.{User}
+use Rattle.vs_types.specs.declared.addresses.access.Access.TheVariants.{Write}
+use Rattle.vs_types.specs.declared.addresses.page.Page.{Page}
+use Rattle.vs_types.specs.declared.requests.answer.Answer.TheVariants.{Done, Allowed}
 use Rattle.vs_types.proofs.Computing.{entries_empty, entries_insert}
 use Rattle.nr_trace.specs.Orders.{space_after, answer_in}
 use Rattle.vs_walk.specs.Walk.{all_rights}

@@ -11,9 +11,9 @@ use Rattle.vs_types.specs.Depth.{index_at}
 use Rattle.vs_types.specs.Entry.{meaning}
 use Rattle.vs_types.specs.Space.{no_pages}
 use Rattle.vs_types.specs.Step.{look}
-use Rattle.vs_types.specs.declared.depth.Depth.TheVariants.{Four}
-use Rattle.vs_types.specs.declared.page.Size.TheVariants.{M2}
-use Rattle.vs_types.specs.declared.entry.Meaning.TheVariants as entry
+use Rattle.vs_types.specs.declared.addresses.depth.Depth.TheVariants.{Four}
+use Rattle.vs_types.specs.declared.addresses.page.Size.TheVariants.{M2}
+use Rattle.vs_types.specs.declared.entries.entry.Meaning.TheVariants as entry
 use Rattle.vs_types.proofs.Lists.{Contains-head, Contains-cases, not_in_nil}
 use Rattle.vs_types.proofs.Spaces.{look_of_nothing, same_key}
 use Rattle.vs_walk.specs.Walk.{all_rights, as_walk, walk, TranslatesAs}
@@ -26,15 +26,15 @@ use Rattle.vs_walk.specs.declared.walk.Walk.TheVariants.{NotMapped, Mapped}
 use Rattle.vs_walk.proofs.Walks.{walk_at}
 use Rattle.vs_walk.proofs.ExamplesOfOneWord.{at_word, visits_of_nothing, fine}
 use Rattle.vs_walk.proofs.ExamplesOfTables as tables
-use Rattle.vs_types.specs.declared.request.Query.{Query}
+use Rattle.vs_types.specs.declared.requests.request.Query.{Query}
 use Rattle.nr_trace.specs.Calls.{Invocation, Response, call_of, reply_of, request_of}
 use Rattle.nr_trace.specs.Examples.{empty_dump, missing_frame, shared_frame, reserved_bit, stray_frame, page_at_zero, unmapped_page, nothing_recorded}
 use Rattle.nr_trace.specs.Faults.{HasFault, HasDump}
 use Rattle.nr_trace.specs.Laws.{IsFaultless}
 use Rattle.nr_trace.specs.Orders.{FitsOrder, space_after}
-use Rattle.nr_trace.specs.declared.fault.Fault.TheVariants.{ThreadOpen, NoSuchCall, AnsweredTwice, NotAnUpdate, PlacedTwice, NotPlaced, PastLog, Early}
-use Rattle.nr_trace.specs.declared.fault.Fault.TheVariants.{WrongAnswer, PrefixPastLog, PrefixShort, MissingFrame, SharedFrame, ReservedBit, StrayFrame}
-use Rattle.nr_trace.specs.declared.fault.Fault.TheVariants.{Differs}
+use Rattle.nr_trace.specs.declared.refusals.fault.Fault.TheVariants.{ThreadOpen, NoSuchCall, AnsweredTwice, NotAnUpdate, PlacedTwice, NotPlaced, PastLog, Early}
+use Rattle.nr_trace.specs.declared.refusals.fault.Fault.TheVariants.{WrongAnswer, PrefixPastLog, PrefixShort, MissingFrame, SharedFrame, ReservedBit, StrayFrame}
+use Rattle.nr_trace.specs.declared.refusals.fault.Fault.TheVariants.{Differs}
 
 -- what holds a frame is there
 there_by : (frames : Memory) (number : ℕ) (words : List ℕ) → finite.get frames number ≡ Some words → 1 ≤ finite.len frames

@@ -2,19 +2,19 @@
 use Rattle.std.proofs.Common.{◌≢◌, ℕ, zero, suc, ◌<◌, [], ◌∷◌, refl, ap, ◌∙◌, ◌≤◌, lit<, lit≤, subst, sym, eqb, arith, false}
 use Rattle.std.proofs.lemmas.Bool.{false≢true}
 use Rattle.std.proofs.lemmas.Option.{none-some}
-use Rattle.vs_types.specs.declared.answer.Answer.{Answer}
-use Rattle.vs_types.specs.declared.answer.Answer.TheVariants.{Done, NotMapped, Mapped, Allowed, Fault}
-use Rattle.vs_types.specs.declared.page.Size.TheVariants.{K4}
+use Rattle.vs_types.specs.declared.requests.answer.Answer.{Answer}
+use Rattle.vs_types.specs.declared.requests.answer.Answer.TheVariants.{Done, NotMapped, Mapped, Allowed, Fault}
+use Rattle.vs_types.specs.declared.addresses.page.Size.TheVariants.{K4}
 use Rattle.nr_trace.specs.Calls.{Answers, IsCall, IsWellFormedHistory}
 use Rattle.nr_trace.specs.Faults.{HasFault}
-use Rattle.nr_trace.specs.declared.event.Asked.TheVariants.{Request}
+use Rattle.nr_trace.specs.declared.recordings.event.Asked.TheVariants.{Request}
 use Rattle.nr_trace.specs.Recording.{IsThere}
 use Rattle.nr_trace.proofs.ExamplesOfSpelling.{len_of_page}
 use Rattle.vs_walk.specs.Walk.{all_rights}
 use Rattle.nr_trace.specs.Examples.{map_it, resolve_it, access_it, access_refused, looks_mapped, dump_of_page, with_log, with_replies, without_first_reply}
 use Rattle.nr_trace.specs.Examples.{with_applied, answered_again}
-use Rattle.nr_trace.specs.declared.fault.Fault.TheVariants.{ThreadOpen, NoSuchCall, AnsweredTwice, NotAnUpdate, PlacedTwice, NotPlaced, PastLog, WrongAnswer}
-use Rattle.nr_trace.specs.declared.fault.Fault.TheVariants.{PrefixPastLog, PrefixShort}
+use Rattle.nr_trace.specs.declared.refusals.fault.Fault.TheVariants.{ThreadOpen, NoSuchCall, AnsweredTwice, NotAnUpdate, PlacedTwice, NotPlaced, PastLog, WrongAnswer}
+use Rattle.nr_trace.specs.declared.refusals.fault.Fault.TheVariants.{PrefixPastLog, PrefixShort}
 use Rattle.nr_trace.proofs.ExamplesOfAnswers.{resolve_answer, access_answer}
 use Rattle.nr_trace.proofs.LawsOfHistories.{no_call_fault}
 

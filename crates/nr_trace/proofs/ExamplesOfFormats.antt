@@ -2,14 +2,14 @@
 use Rattle.std.proofs.Common.{◌≡◌, ◌≢◌, ℕ, [], ◌∷◌, ◌++◌, List, get_or, take, drop, length, inl, inr, refl, ap, sym, subst, arith, take-append-drop}
 use Rattle.nr_trace.specs.Examples.{map_then_resolve}
 use Rattle.std.proofs.lemmas.List.{length-drop}
-use Rattle.nr_trace.specs.declared.version.Version.{Version}
-use Rattle.nr_trace.specs.declared.version.Version.TheVariants.{Segment}
-use Rattle.nr_trace.specs.declared.version.Form.TheVariants as forms
+use Rattle.nr_trace.specs.declared.formats.version.Version.{Version}
+use Rattle.nr_trace.specs.declared.formats.version.Version.TheVariants.{Segment}
+use Rattle.nr_trace.specs.declared.formats.version.Form.TheVariants as forms
 use Rattle.nr_trace.specs.Versions.{IsVersionOf}
 use Rattle.nr_trace.specs.Spelling.{spelling, version_word, Spells}
 use Rattle.nr_trace.specs.FirstFault.{HasFormatFault}
-use Rattle.nr_trace.specs.declared.refusal.TraceUnit.TheVariants as units
-use Rattle.nr_trace.specs.declared.fault.Format.TheVariants.{Truncated, BadMagic, BadVersion, Trailing}
+use Rattle.nr_trace.specs.declared.refusals.refusal.TraceUnit.TheVariants as units
+use Rattle.nr_trace.specs.declared.refusals.fault.Format.TheVariants.{Truncated, BadMagic, BadVersion, Trailing}
 use Rattle.nr_trace.proofs.ExamplesOfRanges.{spelled}
 use Rattle.nr_trace.proofs.ExamplesOfSpelling.{whole}
 use Rattle.nr_trace.proofs.LawsOfFronts.{front_is_truncated, trailing_after}

@@ -3,13 +3,13 @@ use Rattle.std.proofs.Common.{◌≡◌, ℕ, zero, suc, ◌<◌, List, [], ◌�
 use Rattle.std.specs.List.{IsDistinct}
 use Rattle.std.specs.Prelude.{nat_eq}
 use Rattle.std.proofs.lemmas.Option.{same_Some}
-use Rattle.vs_types.specs.declared.request.Query.{Query}
+use Rattle.vs_types.specs.declared.requests.request.Query.{Query}
 use Rattle.nr_trace.specs.Calls.{Response, IsCall, IsOrdered, IsAnswered, Answers, Precedes, request_of, reply_to}
 use Rattle.nr_trace.specs.Orders.{before, space_after, answer_in, IsLegalOrder}
 use Rattle.nr_trace.specs.Examples.{map_then_resolve, with_more, answered_again}
-use Rattle.nr_trace.specs.declared.event.Event.{Event}
-use Rattle.nr_trace.specs.declared.event.Event.TheVariants.{Reply}
-use Rattle.vs_types.specs.declared.answer.Answer.TheVariants.{NotMapped}
+use Rattle.nr_trace.specs.declared.recordings.event.Event.{Event}
+use Rattle.nr_trace.specs.declared.recordings.event.Event.TheVariants.{Reply}
+use Rattle.vs_types.specs.declared.requests.answer.Answer.TheVariants.{NotMapped}
 use Rattle.nr_trace.proofs.ExamplesOfAnswers.{map_answer, resolve_answer}
 use Rattle.nr_trace.proofs.LawsOfCalls.{is_some_from, ordered_is_call, request_is_call}
 

@@ -6,11 +6,11 @@ use Rattle.std.proofs.lemmas.List.Elements.{All-from_recursion, All-cons, All-ap
 use Rattle.vs_types.specs.Config.{Layout, IsLayout}
 use Rattle.vs_types.specs.Frame.{IsFrame}
 use Rattle.nr_trace.specs.Recording.{IsRecording, IsEvent, IsImage}
-use Rattle.nr_trace.specs.declared.version.Version.TheVariants.{V1}
+use Rattle.nr_trace.specs.declared.formats.version.Version.TheVariants.{V1}
 use Rattle.nr_trace.specs.Examples.{map_then_resolve, with_more, answered_again, frames_of_page, dump_of_page, frame_with}
-use Rattle.nr_trace.specs.declared.event.Event.{Event}
-use Rattle.nr_trace.specs.declared.event.Event.TheVariants.{Reply}
-use Rattle.vs_types.specs.declared.answer.Answer.TheVariants.{NotMapped}
+use Rattle.nr_trace.specs.declared.recordings.event.Event.{Event}
+use Rattle.nr_trace.specs.declared.recordings.event.Event.TheVariants.{Reply}
+use Rattle.vs_types.specs.declared.requests.answer.Answer.TheVariants.{NotMapped}
 use Rattle.vs_types.specs.declared.limits.TheConstants.{CALLS}
 use Rattle.nr_trace.specs.Spelling.{spelling, Spells}
 use Rattle.nr_trace.proofs.ExamplesOfSpelling.{entries_of_page, len_of_page}

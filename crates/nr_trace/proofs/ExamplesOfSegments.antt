@@ -15,11 +15,11 @@ use Rattle.nr_trace.specs.Faults.{HasFault}
 use Rattle.nr_trace.specs.FirstFault.{HasFormatFault, HasSegmentFault}
 use Rattle.nr_trace.specs.Spelling.{spelling, SpellsSegment}
 use Rattle.nr_trace.specs.Versions.{Follows}
-use Rattle.nr_trace.specs.declared.version.Version.TheVariants.{Segment}
-use Rattle.nr_trace.specs.declared.version.Form.TheVariants as forms
-use Rattle.nr_trace.specs.declared.fault.Fault.TheVariants.{PastLog}
-use Rattle.nr_trace.specs.declared.refusal.TraceUnit.TheVariants as units
-use Rattle.nr_trace.specs.declared.fault.Format.TheVariants.{BadChain, BadMagic}
+use Rattle.nr_trace.specs.declared.formats.version.Version.TheVariants.{Segment}
+use Rattle.nr_trace.specs.declared.formats.version.Form.TheVariants as forms
+use Rattle.nr_trace.specs.declared.refusals.fault.Fault.TheVariants.{PastLog}
+use Rattle.nr_trace.specs.declared.refusals.refusal.TraceUnit.TheVariants as units
+use Rattle.nr_trace.specs.declared.refusals.fault.Format.TheVariants.{BadChain, BadMagic}
 
 no_entries : finite.entries no_dump.frames ≡ []
 no_entries = finite.entries-from_sorted nat_cmp [] tt

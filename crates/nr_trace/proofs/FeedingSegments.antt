@@ -6,7 +6,7 @@ use Rattle.std.specs.Prelude.{IsTrue}
 use Rattle.std.proofs.lemmas.List.{append-nil}
 use Rattle.vs_types.specs.Config.{Layout}
 use Rattle.vs_types.specs.Refusal.{IfRefused}
-use Rattle.vs_types.specs.declared.refusal.Fail.{Fail}
+use Rattle.vs_types.specs.declared.requests.refusal.Fail.{Fail}
 use Rattle.nr_trace.specs.Recording.{Recording}
 use Rattle.nr_trace.specs.Spelling.{SpellsAs}
 use Rattle.nr_trace.specs.FirstFault.{HasFaultAs}
@@ -14,10 +14,10 @@ use Rattle.nr_trace.specs.Feed.{FedSegment, EndsSegment, FeedsSegment, IsRefused
 use Rattle.nr_trace.specs.Feed.Fed.{Taken}
 use Rattle.nr_trace.specs.inside.Progress.{form_of, said, unit_bytes}
 use Rattle.nr_trace.specs.inside.Feeding.{AreFewer, HasTaken, IsAtEnd, IsFeeding, fed}
-use Rattle.nr_trace.specs.declared.refusal.Refusal.{Refusal}
-use Rattle.nr_trace.specs.declared.fault.Format.TheVariants.{Truncated}
-use Rattle.nr_trace.specs.declared.version.Form.{Form}
-use Rattle.nr_trace.specs.declared.version.Form.TheVariants as forms
+use Rattle.nr_trace.specs.declared.refusals.refusal.Refusal.{Refusal}
+use Rattle.nr_trace.specs.declared.refusals.fault.Format.TheVariants.{Truncated}
+use Rattle.nr_trace.specs.declared.formats.version.Form.{Form}
+use Rattle.nr_trace.specs.declared.formats.version.Form.TheVariants as forms
 use Rattle.nr_trace.specs.declared.reading.reader.Reader.{Reader}
 use Rattle.nr_trace.specs.declared.reading.feed.State.{State}
 use Rattle.nr_trace.specs.declared.reading.feed.State.TheVariants.{Open, Stopped}

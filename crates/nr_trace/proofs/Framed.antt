@@ -8,7 +8,7 @@ use Rattle.vs_walk.specs.Dump.{Image, IsDump}
 use Rattle.vs_walk.specs.Memory.{Memory}
 use Rattle.vs_walk.proofs.Dumps.{find_at}
 use Rattle.nr_trace.specs.Spelling.{frame_number, frame_words, dump_head, head_of, dump, frames}
-use Rattle.nr_trace.specs.declared.fields.DumpHead.{DumpHead}
+use Rattle.nr_trace.specs.declared.formats.fields.DumpHead.{DumpHead}
 use Rattle.nr_trace.proofs.Written.{then}
 
 abbrev nothing : ℕ × List ℕ

@@ -22,7 +22,7 @@ use Rattle.nr_trace.specs.inside.Progress.{HasRead, AreInRange, IsEmpty, IsOpene
 use Rattle.nr_trace.specs.inside.Progress.{Ahead}
 use Rattle.nr_trace.specs.inside.Progress.{front_with, header_units, numbers_of, opened_spelling, frames_of, parts_spelling, said, whole_of, whole_spelling}
 use Rattle.nr_trace.specs.inside.Progress.{begun, opened_of, frame_begun, words_begun}
-use Rattle.nr_trace.specs.declared.refusal.Refusal.{Refusal}
+use Rattle.nr_trace.specs.declared.refusals.refusal.Refusal.{Refusal}
 use Rattle.nr_trace.specs.declared.reading.reader.Parts.{Parts}
 use Rattle.nr_trace.specs.declared.reading.reader.Opened.{Opened}
 use Rattle.nr_trace.specs.declared.reading.reader.OpenFrame.{OpenFrame}
@@ -30,10 +30,10 @@ use Rattle.nr_trace.specs.declared.reading.reader.Reader.{Reader}
 use Rattle.nr_trace.specs.declared.reading.reader.Reader.TheVariants.{Dumps, Frame, Words}
 use Rattle.nr_trace.specs.declared.reading.reader.Owner.{Owner}
 use Rattle.nr_trace.specs.declared.reading.reader.Owner.TheVariants as owners
-use Rattle.nr_trace.specs.declared.event.Event.{Event}
-use Rattle.nr_trace.specs.declared.fields.Counts.{Counts}
-use Rattle.nr_trace.specs.declared.version.Version.{Version}
-use Rattle.nr_trace.specs.declared.version.Version.TheVariants.{V1, Segment}
+use Rattle.nr_trace.specs.declared.recordings.event.Event.{Event}
+use Rattle.nr_trace.specs.declared.formats.fields.Counts.{Counts}
+use Rattle.nr_trace.specs.declared.formats.version.Version.{Version}
+use Rattle.nr_trace.specs.declared.formats.version.Version.TheVariants.{V1, Segment}
 use Rattle.vs_walk.proofs.Dumps.{put_last, numbers_push, count_push}
 use Rattle.nr_trace.proofs.Spelled.{front_of, spelling_of, more_dump}
 use Rattle.nr_trace.proofs.Units.{refused, passed, goes_on}

@@ -9,8 +9,8 @@ use Rattle.vs_types.specs.declared.limits.TheConstants.{LOG_PLACES, CALLS, FRAME
 use Rattle.vs_types.specs.Config.{IsLayoutWithin}
 use Rattle.nr_trace.specs.Versions.{KnowsDepth, most_start, most_tables, most_threads}
 use Rattle.nr_trace.specs.Recording.{Recording, IsImage, IsStart, start_frames}
-use Rattle.nr_trace.specs.declared.version.Version.{Version}
-use Rattle.nr_trace.specs.declared.version.Version.TheVariants.{Segment}
+use Rattle.nr_trace.specs.declared.formats.version.Version.{Version}
+use Rattle.nr_trace.specs.declared.formats.version.Version.TheVariants.{Segment}
 use Rattle.nr_trace.proofs.LawsOfUnits.{few_of_start}
 use Rattle.nr_trace.specs.Parts.{HasBadCount, HasFrames, HasStart}
 

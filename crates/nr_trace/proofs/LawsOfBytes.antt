@@ -12,15 +12,15 @@ use Rattle.nr_trace.specs.Versions.{Follows, IsVersionOf}
 use Rattle.nr_trace.specs.Spelling.{version_word, counts, dump_head, Spells, log_word, event, dump, frame_number, frame_words}
 use Rattle.nr_trace.specs.FirstFault.{AtUnit, IsCounts, IsDumpHead, IsNext, AtFrames, AtDumps, AtEvents, AtLayout, AtLog, AtStart, HasFormatFault, HasRefusalAs}
 use Rattle.nr_trace.specs.FirstFault.{HasSegmentFault, OfFrames, counts_bytes, counts_unit, magic_of, of_dump, of_start, own_at, refusal_at, refusal_of_counts}
-use Rattle.nr_trace.specs.declared.fault.Format.{Format}
-use Rattle.nr_trace.specs.declared.refusal.Refusal.{Refusal}
-use Rattle.nr_trace.specs.declared.refusal.TraceUnit.{TraceUnit}
-use Rattle.nr_trace.specs.declared.refusal.TraceUnit.TheVariants as units
-use Rattle.nr_trace.specs.declared.fault.Format.TheVariants.{Truncated, BadMagic, BadVersion, BadCount, BadChain, BadEvent, Trailing}
-use Rattle.nr_trace.specs.declared.version.Version.{Version}
-use Rattle.nr_trace.specs.declared.version.Form.{Form}
-use Rattle.nr_trace.specs.declared.version.Form.TheVariants as forms
-use Rattle.nr_trace.specs.declared.fields.Counts.{Counts}
+use Rattle.nr_trace.specs.declared.refusals.fault.Format.{Format}
+use Rattle.nr_trace.specs.declared.refusals.refusal.Refusal.{Refusal}
+use Rattle.nr_trace.specs.declared.refusals.refusal.TraceUnit.{TraceUnit}
+use Rattle.nr_trace.specs.declared.refusals.refusal.TraceUnit.TheVariants as units
+use Rattle.nr_trace.specs.declared.refusals.fault.Format.TheVariants.{Truncated, BadMagic, BadVersion, BadCount, BadChain, BadEvent, Trailing}
+use Rattle.nr_trace.specs.declared.formats.version.Version.{Version}
+use Rattle.nr_trace.specs.declared.formats.version.Form.{Form}
+use Rattle.nr_trace.specs.declared.formats.version.Form.TheVariants as forms
+use Rattle.nr_trace.specs.declared.formats.fields.Counts.{Counts}
 use Rattle.std.proofs.lemmas.Option.{same_Some}
 use Rattle.nr_trace.proofs.LawsOfUnits.{IsWide, is_wide}
 use Rattle.nr_trace.proofs.LawsOfSpelling.{frame}

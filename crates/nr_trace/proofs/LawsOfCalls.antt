@@ -5,20 +5,20 @@ use Rattle.std.proofs.Common.{◌==◌, List, length, get_or, slice_get, Option,
 use Rattle.std.proofs.Common.{option_and_then, refl, ap, sym, ◌∙◌, subst, arith, eq-eqb, eqb-true, if◌then◌else◌}
 use Rattle.std.proofs.lemmas.Bool.{both_ways, cases_eq, cases_order, cases_lt}
 use Rattle.std.proofs.lemmas.Option.{same_Some, none-some, slice_get_within, slice_get-get_or}
-use Rattle.vs_types.specs.declared.answer.Answer.{Answer}
-use Rattle.vs_types.specs.declared.request.Query.{Query}
-use Rattle.vs_types.specs.declared.request.Query.TheVariants.{Update}
+use Rattle.vs_types.specs.declared.requests.answer.Answer.{Answer}
+use Rattle.vs_types.specs.declared.requests.request.Query.{Query}
+use Rattle.vs_types.specs.declared.requests.request.Query.TheVariants.{Update}
 use Rattle.nr_trace.specs.Recording.{Recording}
 use Rattle.nr_trace.specs.Calls.{Invocation, made_by, call_of, request_in, unordered_in, request_of, operation_in, read_address, operation_of, touch_of}
 use Rattle.nr_trace.specs.Calls.{IsCall, IsUpdate, IsRead, IsTouch, IsOrdered}
 use Rattle.nr_trace.specs.Calls.{Response, reply_in, reply_of, reply_to, Answers}
 use Rattle.nr_trace.specs.Faults.{HasFault, StandsAfter}
 use Rattle.nr_trace.specs.Laws.{HasCleanLog}
-use Rattle.nr_trace.specs.declared.event.Event.{Event}
-use Rattle.nr_trace.specs.declared.event.Event.TheVariants.{Reply}
-use Rattle.nr_trace.specs.declared.event.Asked.{Asked}
-use Rattle.nr_trace.specs.declared.event.Asked.TheVariants.{Request}
-use Rattle.nr_trace.specs.declared.fault.Fault.TheVariants.{NoSuchCall}
+use Rattle.nr_trace.specs.declared.recordings.event.Event.{Event}
+use Rattle.nr_trace.specs.declared.recordings.event.Event.TheVariants.{Reply}
+use Rattle.nr_trace.specs.declared.recordings.event.Asked.{Asked}
+use Rattle.nr_trace.specs.declared.recordings.event.Asked.TheVariants.{Request}
+use Rattle.nr_trace.specs.declared.refusals.fault.Fault.TheVariants.{NoSuchCall}
 use Rattle.nr_trace.proofs.LawsOfLists.{first_given, given_first}
 
 -- ---- options

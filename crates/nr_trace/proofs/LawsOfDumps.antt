@@ -10,20 +10,20 @@ use Rattle.vs_walk.specs.declared.walk.Walk.{Walk}
 use Rattle.vs_walk.specs.declared.walk.Walk.TheVariants as walks
 use Rattle.nr_trace.specs.Recording.{Recording, IsImage, IsRecording, IsThere}
 use Rattle.nr_trace.specs.Versions.{IsVersionOf}
-use Rattle.nr_trace.specs.declared.version.Version.{Version}
-use Rattle.nr_trace.specs.declared.version.Version.TheVariants.{V1, V2, Segment}
-use Rattle.nr_trace.specs.declared.version.Form.TheVariants as forms
+use Rattle.nr_trace.specs.declared.formats.version.Version.{Version}
+use Rattle.nr_trace.specs.declared.formats.version.Version.TheVariants.{V1, V2, Segment}
+use Rattle.nr_trace.specs.declared.formats.version.Form.TheVariants as forms
 use Rattle.std.proofs.lemmas.Option.{slice_get_within, get_or_from_slice_get}
 use Rattle.vs_types.specs.Codes.{size_code, rights_code}
-use Rattle.nr_trace.specs.declared.fields.AnswerFields.{AnswerFields}
+use Rattle.nr_trace.specs.declared.formats.fields.AnswerFields.{AnswerFields}
 use Rattle.nr_trace.specs.Calls.{Invocation, call_of, IsUpdate, IsRead, Response, reply_of, reply_to}
 use Rattle.nr_trace.specs.Orders.{below, before, updates, space_from, recorded_order, known_by, IsLegalFrom, FitsFrom}
 use Rattle.nr_trace.specs.Faults.{StandsAfter, RestsOnMore}
 use Rattle.vs_walk.specs.Differences.{IsLeast, TranslatesOtherwise}
 use Rattle.vs_walk.proofs.Leasts.{none_from_no_least}
 use Rattle.nr_trace.specs.Laws.{HasCleanLog, IsFaultlessFrom}
-use Rattle.nr_trace.specs.declared.fault.Fault.TheVariants.{ThreadOpen, NoSuchCall, AnsweredTwice, NotAnUpdate, PlacedTwice, NotPlaced, PastLog, Early}
-use Rattle.nr_trace.specs.declared.fault.Fault.TheVariants.{WrongAnswer, PrefixPastLog, PrefixShort, Differs}
+use Rattle.nr_trace.specs.declared.refusals.fault.Fault.TheVariants.{ThreadOpen, NoSuchCall, AnsweredTwice, NotAnUpdate, PlacedTwice, NotPlaced, PastLog, Early}
+use Rattle.nr_trace.specs.declared.refusals.fault.Fault.TheVariants.{WrongAnswer, PrefixPastLog, PrefixShort, Differs}
 use Rattle.nr_trace.proofs.LawsOfUnits.{size_from, size_back, rights_from, rights_back}
 use Rattle.nr_trace.proofs.LawsOfLists.{In, Contains-from_in, in_from_Contains, in_either, in_filter}
 use Rattle.nr_trace.proofs.LawsOfCalls.{the_some, not_both, reply_event, answered_stands}

@@ -22,17 +22,17 @@ use Rattle.nr_trace.specs.Spelling.{frame_words}
 use Rattle.nr_trace.specs.FirstFault.{AtUnit, IsCounts, IsDumpHead, IsNext, AtEnd, AtFrames, AtDumps, AtEvents, AtLayout, AtLog, AtStart, HasFaultAs, HasRefusalAs, OfFrames}
 use Rattle.nr_trace.specs.FirstFault.{HasSegmentFault, counts_bytes, counts_unit, of_dump, of_start}
 use Rattle.nr_trace.specs.FirstFault.{magic_of}
-use Rattle.nr_trace.specs.declared.fault.Format.{Format}
-use Rattle.nr_trace.specs.declared.refusal.Refusal.{Refusal}
-use Rattle.nr_trace.specs.declared.refusal.TraceUnit.{TraceUnit}
-use Rattle.nr_trace.specs.declared.refusal.TraceUnit.TheVariants as units
-use Rattle.nr_trace.specs.declared.fault.Format.TheVariants.{BadMagic, BadVersion, BadCount, BadEvent}
-use Rattle.nr_trace.specs.declared.event.Event.{Event}
-use Rattle.nr_trace.specs.declared.version.Version.{Version}
-use Rattle.nr_trace.specs.declared.version.Version.TheVariants.{Segment}
-use Rattle.nr_trace.specs.declared.version.Form.{Form}
-use Rattle.nr_trace.specs.declared.version.Form.TheVariants as forms
-use Rattle.nr_trace.specs.declared.fields.Counts.{Counts}
+use Rattle.nr_trace.specs.declared.refusals.fault.Format.{Format}
+use Rattle.nr_trace.specs.declared.refusals.refusal.Refusal.{Refusal}
+use Rattle.nr_trace.specs.declared.refusals.refusal.TraceUnit.{TraceUnit}
+use Rattle.nr_trace.specs.declared.refusals.refusal.TraceUnit.TheVariants as units
+use Rattle.nr_trace.specs.declared.refusals.fault.Format.TheVariants.{BadMagic, BadVersion, BadCount, BadEvent}
+use Rattle.nr_trace.specs.declared.recordings.event.Event.{Event}
+use Rattle.nr_trace.specs.declared.formats.version.Version.{Version}
+use Rattle.nr_trace.specs.declared.formats.version.Version.TheVariants.{Segment}
+use Rattle.nr_trace.specs.declared.formats.version.Form.{Form}
+use Rattle.nr_trace.specs.declared.formats.version.Form.TheVariants as forms
+use Rattle.nr_trace.specs.declared.formats.fields.Counts.{Counts}
 use Rattle.nr_trace.proofs.LawsOfSpelling.{Frame, FrameFits, frame, image_frames_fit, head_fits, frames_of, counts_fit, logs, events, dumps, numbered}
 use Rattle.nr_trace.proofs.LawsOfSpelling.{counted, magic_is, spelling_is, versioned}
 use Rattle.nr_trace.proofs.LawsOfUnits.{IsWide, ToldApart, is_wide, number_64, versions_apart, counts_apart, length-counts, heads_apart, length-head}

@@ -8,7 +8,7 @@ use Rattle.nr_trace.specs.Recording.{Recording}
 use Rattle.nr_trace.specs.Calls.{Invocation, call_of, Response, reply_of, Answers, Precedes, IsWellFormedHistory}
 use Rattle.nr_trace.specs.Faults.{HasFault}
 use Rattle.nr_trace.specs.Laws.{IsFaultlessFrom}
-use Rattle.nr_trace.specs.declared.fault.Fault.TheVariants.{ThreadOpen, NoSuchCall, AnsweredTwice}
+use Rattle.nr_trace.specs.declared.refusals.fault.Fault.TheVariants.{ThreadOpen, NoSuchCall, AnsweredTwice}
 use Rattle.nr_trace.proofs.LawsOfCalls.{answers_from, behind_its_call, is_some_from, reply_that_answers}
 
 -- some number below another passes a test, or none does

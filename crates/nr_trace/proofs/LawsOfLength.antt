@@ -14,9 +14,9 @@ use Rattle.nr_trace.specs.Spelling.{frame_number, frame_words}
 use Rattle.nr_trace.proofs.LawsOfUnits.{length-counts, length-head, length-event, length_of_units, length-frame_words}
 use Rattle.nr_trace.proofs.LawsOfSpelling.{Frame, FrameFits, frame, image_frames_fit, frames_of, logs, events, dumps, counted, magic_is, numbered, spelling_is}
 use Rattle.nr_trace.proofs.LawsOfSpelling.{starts, versioned}
-use Rattle.nr_trace.specs.declared.version.Version.{Version}
-use Rattle.nr_trace.specs.declared.version.Version.TheVariants.{Segment}
-use Rattle.nr_trace.specs.declared.version.Form.TheVariants as forms
+use Rattle.nr_trace.specs.declared.formats.version.Version.{Version}
+use Rattle.nr_trace.specs.declared.formats.version.Version.TheVariants.{Segment}
+use Rattle.nr_trace.specs.declared.formats.version.Form.TheVariants as forms
 
 -- units of at most so many bytes each
 length_at_most : {A : Type 0} (Fits : A → Type 0) (spelled : A → List ℕ) (n : ℕ) → ((a : A) → Fits a → length (spelled a) ≤ n) → (xs : List A)

@@ -11,15 +11,15 @@ use Rattle.std.proofs.lemmas.List.Elements.{filter_map-append, filter-append}
 use Rattle.std.proofs.lemmas.Option.{slice_get_within}
 use Rattle.vs_types.specs.Step.{after_all}
 use Rattle.vs_types.specs.Space.{Space}
-use Rattle.vs_types.specs.declared.answer.Answer.{Answer}
-use Rattle.vs_types.specs.declared.request.Query.{Query}
+use Rattle.vs_types.specs.declared.requests.answer.Answer.{Answer}
+use Rattle.vs_types.specs.declared.requests.request.Query.{Query}
 use Rattle.nr_trace.specs.Recording.{Recording}
 use Rattle.nr_trace.specs.Spelling.{answer_fields}
 use Rattle.nr_trace.specs.Calls.{request_of, operation_of, address_of, IsOrdered, IsUpdate, IsRead, Response, reply_to, IsAnswered}
 use Rattle.nr_trace.specs.Orders.{below, before, updates, operations, space_from, answer_in, reads_at, recorded_order}
 use Rattle.nr_trace.specs.Faults.{HasFaultFrom, StandsAfter}
 use Rattle.nr_trace.specs.Laws.{HasCleanLog, IsSerialFrom}
-use Rattle.nr_trace.specs.declared.fault.Fault.TheVariants.{WrongAnswer}
+use Rattle.nr_trace.specs.declared.refusals.fault.Fault.TheVariants.{WrongAnswer}
 use Rattle.nr_trace.proofs.LawsOfUnits.{answer_apart}
 use Rattle.nr_trace.proofs.LawsOfLists.{In, Contains-from_in, in_from_Contains, in_left, in_right, in_either, in_filter, in_filtered, in_flat_map}
 use Rattle.nr_trace.proofs.LawsOfLists.{in_flat_mapped, in_below, below_in, below_split, distinct_append, distinct_filter, option_distinct, below_distinct}

@@ -11,7 +11,7 @@ use Rattle.nr_trace.specs.Calls.{operation_of, IsOrdered, IsUpdate, IsRead, Resp
 use Rattle.nr_trace.specs.Orders.{below, before, reads_at, recorded_order, known_by, floor, IsLegalFrom}
 use Rattle.nr_trace.specs.Faults.{HasFault, HasFaultFrom, StandsAfter}
 use Rattle.nr_trace.specs.Laws.{HasCleanLog}
-use Rattle.nr_trace.specs.declared.fault.Fault.TheVariants.{Early, WrongAnswer}
+use Rattle.nr_trace.specs.declared.refusals.fault.Fault.TheVariants.{Early, WrongAnswer}
 use Rattle.nr_trace.proofs.LawsOfLists.{In, Contains-from_in, in_from_Contains, in_left, in_right, in_filtered, in_mapped, below_in}
 use Rattle.nr_trace.proofs.LawsOfCalls.{reply_in_event, reply_that_answers, reply_is_first, reply_behind_call, answered_stands, no_operation, ordered_no_touch}
 use Rattle.nr_trace.proofs.LawsOfCalls.{the_some}

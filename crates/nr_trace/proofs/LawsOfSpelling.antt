@@ -13,12 +13,12 @@ use Rattle.nr_trace.specs.Versions.{IsVersionOf}
 use Rattle.nr_trace.specs.Spelling.{spelling, Spells, SpellsAs, magic, start_units, version_word, counts, counts_of, log_word, event, dump, dump_head, head_of}
 use Rattle.nr_trace.specs.Spelling.{frame_number, frame_words}
 use Rattle.nr_trace.specs.FirstFault.{IsCounts, IsDumpHead, magic_of}
-use Rattle.nr_trace.specs.declared.fields.Counts.{Counts}
-use Rattle.nr_trace.specs.declared.fields.DumpHead.{DumpHead}
-use Rattle.nr_trace.specs.declared.version.Version.{Version}
-use Rattle.nr_trace.specs.declared.version.Version.TheVariants.{V1, V2, Segment}
-use Rattle.nr_trace.specs.declared.version.Form.{Form}
-use Rattle.nr_trace.specs.declared.version.Form.TheVariants as forms
+use Rattle.nr_trace.specs.declared.formats.fields.Counts.{Counts}
+use Rattle.nr_trace.specs.declared.formats.fields.DumpHead.{DumpHead}
+use Rattle.nr_trace.specs.declared.formats.version.Version.{Version}
+use Rattle.nr_trace.specs.declared.formats.version.Version.TheVariants.{V1, V2, Segment}
+use Rattle.nr_trace.specs.declared.formats.version.Form.{Form}
+use Rattle.nr_trace.specs.declared.formats.version.Form.TheVariants as forms
 use Rattle.nr_trace.proofs.LawsOfUnits.{ToldApart, versions_apart, counts_apart, heads_apart, frame_numbers_apart, words_apart, lists_apart, log_words_apart}
 use Rattle.nr_trace.proofs.LawsOfUnits.{is_wide, number_64}
 use Rattle.nr_trace.proofs.EventsApart.{events_apart}

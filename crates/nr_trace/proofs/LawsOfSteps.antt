@@ -7,12 +7,12 @@ use Rattle.std.proofs.lemmas.List.Elements.{filter_map-append}
 use Rattle.std.proofs.lemmas.Grind.{fold-append}
 use Rattle.vs_types.specs.Space.{Space}
 use Rattle.vs_types.specs.Step.{step, after_all}
-use Rattle.vs_types.specs.declared.op.Action.{Action}
+use Rattle.vs_types.specs.declared.requests.op.Action.{Action}
 use Rattle.vs_types.proofs.Afterwards.{after_all-append}
 use Rattle.nr_trace.specs.Recording.{Recording}
 use Rattle.nr_trace.specs.Calls.{operation_of, Response, reply_in, reply_of}
 use Rattle.nr_trace.specs.Orders.{operations, space_from, known_by, floor}
-use Rattle.nr_trace.specs.declared.event.Event.{Event}
+use Rattle.nr_trace.specs.declared.recordings.event.Event.{Event}
 use Rattle.nr_trace.proofs.LawsOfLists.{take-next}
 
 -- what is known by the replies of one event

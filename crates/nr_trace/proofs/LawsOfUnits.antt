@@ -14,36 +14,36 @@ use Rattle.vs_types.specs.Codes.{size_code, rights_code, mode_code, access_code}
 use Rattle.vs_types.specs.Fields.{request_fields}
 use Rattle.vs_types.specs.Frame.{IsFrame}
 use Rattle.vs_types.specs.Query.{IsQuery}
-use Rattle.vs_types.specs.declared.depth.Depth.{Depth}
-use Rattle.vs_types.specs.declared.depth.Depth.TheVariants.{Four, Five}
-use Rattle.vs_types.specs.declared.page.Rights.{Rights}
-use Rattle.vs_types.specs.declared.page.Size.{Size}
-use Rattle.vs_types.specs.declared.page.Size.TheVariants.{K4, M2, G1}
-use Rattle.vs_types.specs.declared.access.Mode.{Mode}
-use Rattle.vs_types.specs.declared.access.Mode.TheVariants.{Supervisor, User}
-use Rattle.vs_types.specs.declared.access.Access as accesses
-use Rattle.vs_types.specs.declared.access.Access.TheVariants.{Read, Write, Fetch}
-use Rattle.vs_types.specs.declared.op.Action.TheVariants.{Map, Unmap, Protect}
-use Rattle.vs_types.specs.declared.request.Query.{Query}
-use Rattle.vs_types.specs.declared.request.Query.TheVariants.{Update, Resolve, Access}
-use Rattle.vs_types.specs.declared.fields.RequestFields.{RequestFields}
-use Rattle.vs_types.specs.declared.answer.Answer.{Answer}
-use Rattle.vs_types.specs.declared.answer.Answer.TheVariants.{Done, Overlap, Full, Removed, NotMapped, Inside, Changed, Mapped, Allowed, Fault}
+use Rattle.vs_types.specs.declared.addresses.depth.Depth.{Depth}
+use Rattle.vs_types.specs.declared.addresses.depth.Depth.TheVariants.{Four, Five}
+use Rattle.vs_types.specs.declared.addresses.page.Rights.{Rights}
+use Rattle.vs_types.specs.declared.addresses.page.Size.{Size}
+use Rattle.vs_types.specs.declared.addresses.page.Size.TheVariants.{K4, M2, G1}
+use Rattle.vs_types.specs.declared.addresses.access.Mode.{Mode}
+use Rattle.vs_types.specs.declared.addresses.access.Mode.TheVariants.{Supervisor, User}
+use Rattle.vs_types.specs.declared.addresses.access.Access as accesses
+use Rattle.vs_types.specs.declared.addresses.access.Access.TheVariants.{Read, Write, Fetch}
+use Rattle.vs_types.specs.declared.requests.op.Action.TheVariants.{Map, Unmap, Protect}
+use Rattle.vs_types.specs.declared.requests.request.Query.{Query}
+use Rattle.vs_types.specs.declared.requests.request.Query.TheVariants.{Update, Resolve, Access}
+use Rattle.vs_types.specs.declared.requests.fields.RequestFields.{RequestFields}
+use Rattle.vs_types.specs.declared.requests.answer.Answer.{Answer}
+use Rattle.vs_types.specs.declared.requests.answer.Answer.TheVariants.{Done, Overlap, Full, Removed, NotMapped, Inside, Changed, Mapped, Allowed, Fault}
 use Rattle.vs_types.proofs.Pages.{canonical_fits}
 use Rattle.vs_types.proofs.LogWords.{size_code_low, rights_code_low}
 use Rattle.nr_trace.specs.Recording.{IsAnswer}
 use Rattle.nr_trace.specs.Spelling.{answer_fields, touch_fields, version_word, counts, log_word, event, dump_head, frame_number, frame_words}
 use Rattle.nr_trace.specs.Versions.{IsVersionOf, most_frames, most_start, most_tables, most_threads}
 use Rattle.nr_trace.specs.FirstFault.{IsCounts, IsDumpHead, counts_bytes}
-use Rattle.nr_trace.specs.declared.fields.AnswerFields.{AnswerFields}
-use Rattle.nr_trace.specs.declared.fields.Counts.{Counts}
-use Rattle.nr_trace.specs.declared.fields.DumpHead.{DumpHead}
-use Rattle.nr_trace.specs.declared.version.Version.{Version}
-use Rattle.nr_trace.specs.declared.version.Version.TheVariants.{V1, V2, Segment}
-use Rattle.nr_trace.specs.declared.version.Form.{Form}
-use Rattle.nr_trace.specs.declared.version.Form.TheVariants as forms
-use Rattle.nr_trace.specs.declared.event.Event.{Event}
-use Rattle.nr_trace.specs.declared.event.Event.TheVariants.{Call}
+use Rattle.nr_trace.specs.declared.formats.fields.AnswerFields.{AnswerFields}
+use Rattle.nr_trace.specs.declared.formats.fields.Counts.{Counts}
+use Rattle.nr_trace.specs.declared.formats.fields.DumpHead.{DumpHead}
+use Rattle.nr_trace.specs.declared.formats.version.Version.{Version}
+use Rattle.nr_trace.specs.declared.formats.version.Version.TheVariants.{V1, V2, Segment}
+use Rattle.nr_trace.specs.declared.formats.version.Form.{Form}
+use Rattle.nr_trace.specs.declared.formats.version.Form.TheVariants as forms
+use Rattle.nr_trace.specs.declared.recordings.event.Event.{Event}
+use Rattle.nr_trace.specs.declared.recordings.event.Event.TheVariants.{Call}
 
 -- two values that fit are one if their spellings begin one list, and then what comes after is one too
 abbrev pub ToldApart : {A : Type 0} → (A → Type 0) → (A → List ℕ) → Type 0

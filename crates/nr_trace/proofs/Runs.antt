@@ -5,11 +5,11 @@ use Rattle.vs_walk.specs.Dump.{Image}
 use Rattle.nr_trace.specs.Parts.{HasFrames}
 use Rattle.nr_trace.specs.Recording.{IsEvent}
 use Rattle.nr_trace.specs.Versions.{FitsFirst, IsVersionOf, KnowsDepth, KnowsEvent, most_tables, most_threads}
-use Rattle.nr_trace.specs.declared.event.Event.{Event}
-use Rattle.nr_trace.specs.declared.event.Event.TheVariants.{Call, Reply}
-use Rattle.nr_trace.specs.declared.version.Version.{Version}
-use Rattle.nr_trace.specs.declared.version.Version.TheVariants.{V1, V2, Segment}
-use Rattle.nr_trace.specs.declared.version.Form.TheVariants as forms
+use Rattle.nr_trace.specs.declared.recordings.event.Event.{Event}
+use Rattle.nr_trace.specs.declared.recordings.event.Event.TheVariants.{Call, Reply}
+use Rattle.nr_trace.specs.declared.formats.version.Version.{Version}
+use Rattle.nr_trace.specs.declared.formats.version.Version.TheVariants.{V1, V2, Segment}
+use Rattle.nr_trace.specs.declared.formats.version.Form.TheVariants as forms
 
 -- the dumps of a trace have as many frames in each version, and the layout of a configuration is one of each
 pub as_first : (version : Version) (dump : Image) → IsVersionOf forms.Trace version → HasFrames V1 dump → HasFrames version dump

@@ -9,11 +9,11 @@ use Rattle.nr_trace.specs.Recording.{start_frames}
 use Rattle.nr_trace.specs.Spelling.{log_word, event, dump, start_units}
 use Rattle.nr_trace.specs.FirstFault.{AtLog, AtEvents, AtDumps}
 use Rattle.nr_trace.specs.inside.Progress.{HasRead, AreInRange, header_units, numbers_of, parts_spelling}
-use Rattle.nr_trace.specs.declared.event.Event.{Event}
-use Rattle.nr_trace.specs.declared.refusal.Refusal.{Refusal}
+use Rattle.nr_trace.specs.declared.recordings.event.Event.{Event}
+use Rattle.nr_trace.specs.declared.refusals.refusal.Refusal.{Refusal}
 use Rattle.nr_trace.specs.declared.reading.reader.Parts.{Parts}
 use Rattle.nr_trace.specs.declared.reading.reader.Reader.TheVariants.{Dumps}
-use Rattle.nr_trace.specs.declared.version.Version.{Version}
+use Rattle.nr_trace.specs.declared.formats.version.Version.{Version}
 
 behind_nothing : {X : Type 0} (f : X → List ℕ) (xs : List X) (l : List ℕ) → xs ≡ [] → l ++ flat_map f xs ≡ l
 behind_nothing f xs l e = ap (λ ys. l ++ flat_map f ys) e ∙ append-nil l

@@ -6,8 +6,8 @@ use Rattle.std.proofs.lemmas.List.{append-nil, nil_from_length, length-append, f
 use Rattle.std.proofs.lemmas.List.Concat.{flat_map-cons}
 use Rattle.std.proofs.lemmas.List.Elements.{All-head, All-tail, All-push, All-append}
 use Rattle.vs_types.specs.Refusal.{IfRefused}
-use Rattle.vs_types.specs.declared.refusal.Fail.{Fail}
-use Rattle.vs_types.specs.declared.refusal.Fail.TheVariants.{Memory, Refused}
+use Rattle.vs_types.specs.declared.requests.refusal.Fail.{Fail}
+use Rattle.vs_types.specs.declared.requests.refusal.Fail.TheVariants.{Memory, Refused}
 use Rattle.vs_types.specs.Config.{Layout}
 use Rattle.vs_types.specs.declared.limits.TheConstants.{LOG_PLACES, CALLS}
 use Rattle.vs_walk.specs.Dump.{Image}
@@ -16,14 +16,14 @@ use Rattle.nr_trace.specs.FirstFault.{AtLog, AtEvents, IsRefusedBy, and_then, re
 use Rattle.nr_trace.specs.inside.Reading.{ArePlaced, AreRecorded, IsBadEvent, SpellsEvent}
 use Rattle.nr_trace.specs.inside.Progress.{HasRead, AreInRange}
 use Rattle.nr_trace.specs.Recording.{IsEvent}
-use Rattle.nr_trace.specs.declared.event.Event.{Event}
-use Rattle.nr_trace.specs.declared.refusal.Refusal.{Refusal}
-use Rattle.nr_trace.specs.declared.refusal.TraceUnit.TheVariants as units
-use Rattle.nr_trace.specs.declared.fault.Format.TheVariants.{BadEvent}
+use Rattle.nr_trace.specs.declared.recordings.event.Event.{Event}
+use Rattle.nr_trace.specs.declared.refusals.refusal.Refusal.{Refusal}
+use Rattle.nr_trace.specs.declared.refusals.refusal.TraceUnit.TheVariants as units
+use Rattle.nr_trace.specs.declared.refusals.fault.Format.TheVariants.{BadEvent}
 use Rattle.nr_trace.specs.declared.reading.reader.Parts.{Parts}
 use Rattle.nr_trace.specs.declared.reading.reader.Reader.{Reader}
-use Rattle.nr_trace.specs.declared.version.Version.{Version}
-use Rattle.nr_trace.specs.declared.version.Form.{Form}
+use Rattle.nr_trace.specs.declared.formats.version.Version.{Version}
+use Rattle.nr_trace.specs.declared.formats.version.Form.{Form}
 use Rattle.nr_trace.proofs.LawsOfUnits.{length-event, length_of_units}
 use Rattle.nr_trace.proofs.Spelled.{spelling_of, more_places, more_events}
 use Rattle.nr_trace.proofs.Units.{goes_on, place_passed, event_passed, event_refused}

@@ -3,20 +3,20 @@ use Rattle.std.proofs.Common.{◌≡◌, ℕ, ◌<◌, ◌≤◌, List, ◌∷�
 use Rattle.vs_types.specs.Config.{Layout}
 use Rattle.vs_types.specs.Fields.{HasFields}
 use Rattle.vs_types.specs.Finds.{Finds}
-use Rattle.vs_types.specs.declared.depth.Depth.{Depth}
-use Rattle.vs_types.specs.declared.fields.RequestFields.{RequestFields}
+use Rattle.vs_types.specs.declared.addresses.depth.Depth.{Depth}
+use Rattle.vs_types.specs.declared.requests.fields.RequestFields.{RequestFields}
 use Rattle.vs_types.specs.Codes.{size_code}
-use Rattle.vs_types.specs.declared.page.Size.{Size}
-use Rattle.vs_types.specs.declared.request.Query.{Query}
-use Rattle.vs_types.specs.declared.request.Query.TheVariants.{Access}
+use Rattle.vs_types.specs.declared.addresses.page.Size.{Size}
+use Rattle.vs_types.specs.declared.requests.request.Query.{Query}
+use Rattle.vs_types.specs.declared.requests.request.Query.TheVariants.{Access}
 use Rattle.nr_trace.specs.Versions.{KnowsAsked, KnowsTouch}
 use Rattle.nr_trace.specs.Recording.{IsAskable, IsMemory}
 use Rattle.nr_trace.specs.Spelling.{asked_fields, release_fields}
 use Rattle.nr_trace.specs.inside.Reading.{IsAskedIn, IsReleaseWith, IsRequestIn, IsTouchWith, SpellsEvent}
-use Rattle.nr_trace.specs.declared.event.Asked.{Asked}
-use Rattle.nr_trace.specs.declared.event.Asked.TheVariants as askeds
-use Rattle.nr_trace.specs.declared.version.Version.{Version}
-use Rattle.nr_trace.specs.declared.event.Event.TheVariants.{Call}
+use Rattle.nr_trace.specs.declared.recordings.event.Asked.{Asked}
+use Rattle.nr_trace.specs.declared.recordings.event.Asked.TheVariants as askeds
+use Rattle.nr_trace.specs.declared.formats.version.Version.{Version}
+use Rattle.nr_trace.specs.declared.recordings.event.Event.TheVariants.{Call}
 use Rattle.nr_trace.proofs.LawsOfUnits.{request_fits, size_back, size_from}
 use Rattle.nr_trace.proofs.EventsApart.{call_bytes}
 use Rattle.nr_trace.proofs.Taken.{only_front}

@@ -13,8 +13,8 @@ use Rattle.nr_trace.specs.Recording.{IsEvent}
 use Rattle.nr_trace.specs.Spelling.{version_word, counts, log_word, event, dump_head, frame_number, frame_words}
 use Rattle.nr_trace.specs.Versions.{IsVersionOf}
 use Rattle.nr_trace.specs.FirstFault.{IsCounts, IsDumpHead, IsNext, magic_of}
-use Rattle.nr_trace.specs.declared.version.Version.{Version}
-use Rattle.nr_trace.specs.declared.version.Form.{Form}
+use Rattle.nr_trace.specs.declared.formats.version.Version.{Version}
+use Rattle.nr_trace.specs.declared.formats.version.Form.{Form}
 use Rattle.nr_trace.proofs.Known.{Known, below, both, same_bytes, version_known, event_known, counts_known, head_known, next_known}
 use Rattle.nr_trace.proofs.LawsOfUnits.{IsWide, version_from, version_back, counts_from, counts_back, head_from, head_back}
 use Rattle.nr_trace.proofs.EventsApart.{event_from, event_back}

@@ -12,17 +12,17 @@ use Rattle.nr_trace.specs.Spelling.{SpellsAs}
 use Rattle.nr_trace.specs.Versions.{IsVersionOf}
 use Rattle.nr_trace.specs.FirstFault.{AtEnd, AtFrames, AtDumps, AtEvents, AtLog, AtStart, OfFrames, counts_bytes, refusal_at}
 use Rattle.nr_trace.specs.inside.Progress.{cut_off, form_of, frame_begun, frames_of, unit_bytes, said, whole_spelling, words_begun, Ahead, AreInRange, AreUnits, IsReady, IsRun}
-use Rattle.nr_trace.specs.declared.refusal.Refusal.{Refusal}
-use Rattle.nr_trace.specs.declared.refusal.TraceUnit.TheVariants as units
-use Rattle.nr_trace.specs.declared.fault.Format.TheVariants.{Truncated, Trailing}
+use Rattle.nr_trace.specs.declared.refusals.refusal.Refusal.{Refusal}
+use Rattle.nr_trace.specs.declared.refusals.refusal.TraceUnit.TheVariants as units
+use Rattle.nr_trace.specs.declared.refusals.fault.Format.TheVariants.{Truncated, Trailing}
 use Rattle.nr_trace.specs.declared.reading.reader.OpenFrame.{OpenFrame}
 use Rattle.nr_trace.specs.declared.reading.reader.Parts.{Parts}
 use Rattle.nr_trace.specs.declared.reading.reader.Reader.{Reader}
 use Rattle.nr_trace.specs.declared.reading.reader.Reader.TheVariants.{Magic, Version, Header, Root, Log, Events, Dumps, Frame, Words}
-use Rattle.nr_trace.specs.declared.version.Version as versions
-use Rattle.nr_trace.specs.declared.version.Version.TheVariants.{V1, V2, Segment}
-use Rattle.nr_trace.specs.declared.version.Form.{Form}
-use Rattle.nr_trace.specs.declared.version.Form.TheVariants as forms
+use Rattle.nr_trace.specs.declared.formats.version.Version as versions
+use Rattle.nr_trace.specs.declared.formats.version.Version.TheVariants.{V1, V2, Segment}
+use Rattle.nr_trace.specs.declared.formats.version.Form.{Form}
+use Rattle.nr_trace.specs.declared.formats.version.Form.TheVariants as forms
 use Rattle.nr_trace.proofs.LawsOfUnits.{length_of_units}
 
 -- ---- the rest is shorter than the next unit

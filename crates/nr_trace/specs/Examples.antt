@@ -1,25 +1,25 @@
 -- The recordings of the worked examples.
 use Rattle.std.specs.Prelude.{ℕ, ◌-◌, ◌++◌, List, [], ◌∷◌, None, replicate}
 use Rattle.std.specs.FinMap as finite
-use Rattle.vs_types.specs.declared.depth.Depth.TheVariants.{Four}
-use Rattle.vs_types.specs.declared.page.Size.TheVariants.{K4}
-use Rattle.vs_types.specs.declared.op.Action.{Action}
-use Rattle.vs_types.specs.declared.op.Action.TheVariants.{Map, Unmap}
-use Rattle.vs_types.specs.declared.request.Query.{Query}
-use Rattle.vs_types.specs.declared.request.Query.TheVariants.{Update, Resolve, Access}
-use Rattle.vs_types.specs.declared.access.Mode.TheVariants.{User}
-use Rattle.vs_types.specs.declared.access.Access.TheVariants.{Write}
-use Rattle.vs_types.specs.declared.answer.Answer.{Answer}
-use Rattle.vs_types.specs.declared.answer.Answer.TheVariants.{Done, NotMapped, Mapped, Allowed, Fault}
+use Rattle.vs_types.specs.declared.addresses.depth.Depth.TheVariants.{Four}
+use Rattle.vs_types.specs.declared.addresses.page.Size.TheVariants.{K4}
+use Rattle.vs_types.specs.declared.requests.op.Action.{Action}
+use Rattle.vs_types.specs.declared.requests.op.Action.TheVariants.{Map, Unmap}
+use Rattle.vs_types.specs.declared.requests.request.Query.{Query}
+use Rattle.vs_types.specs.declared.requests.request.Query.TheVariants.{Update, Resolve, Access}
+use Rattle.vs_types.specs.declared.addresses.access.Mode.TheVariants.{User}
+use Rattle.vs_types.specs.declared.addresses.access.Access.TheVariants.{Write}
+use Rattle.vs_types.specs.declared.requests.answer.Answer.{Answer}
+use Rattle.vs_types.specs.declared.requests.answer.Answer.TheVariants.{Done, NotMapped, Mapped, Allowed, Fault}
 use Rattle.vs_walk.specs.Examples.{one_word, one_table, three_tables, one_empty_frame, two_empty_frames}
 use Rattle.vs_walk.specs.Memory.{Memory}
 use Rattle.vs_walk.specs.Walk.{all_rights}
 use Rattle.vs_walk.specs.Dump.{Image}
 use Rattle.nr_trace.specs.Recording.{Recording}
-use Rattle.nr_trace.specs.declared.version.Version.TheVariants.{V1, V2, Segment}
-use Rattle.nr_trace.specs.declared.event.Event.{Event}
-use Rattle.nr_trace.specs.declared.event.Event.TheVariants.{Call, Reply}
-use Rattle.nr_trace.specs.declared.event.Asked.TheVariants.{Request, Touch}
+use Rattle.nr_trace.specs.declared.formats.version.Version.TheVariants.{V1, V2, Segment}
+use Rattle.nr_trace.specs.declared.recordings.event.Event.{Event}
+use Rattle.nr_trace.specs.declared.recordings.event.Event.TheVariants.{Call, Reply}
+use Rattle.nr_trace.specs.declared.recordings.event.Asked.TheVariants.{Request, Touch}
 
 -- a frame with this word at this index, and else zeros
 abbrev pub frame_with : ℕ → ℕ → List ℕ

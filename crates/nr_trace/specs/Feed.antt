@@ -2,16 +2,16 @@
 use Rattle.std.specs.Prelude.{◌≡◌, ◌<◌, ◌≤◌, ◌⊎◌, ◌++◌, ℕ, List, [], ◌∷◌, length, take, Option, Result, Ok, Err, IfErr, MatchResult}
 use Rattle.vs_types.specs.Config.{Layout}
 use Rattle.vs_types.specs.Refusal.{IfRefused}
-use Rattle.vs_types.specs.declared.refusal.Fail.{Fail}
-use Rattle.vs_types.specs.declared.refusal.Fail.TheVariants.{Memory, Refused}
+use Rattle.vs_types.specs.declared.requests.refusal.Fail.{Fail}
+use Rattle.vs_types.specs.declared.requests.refusal.Fail.TheVariants.{Memory, Refused}
 use Rattle.nr_trace.specs.Recording.{Recording}
 use Rattle.nr_trace.specs.Spelling.{Spells, SpellsAs}
 use Rattle.nr_trace.specs.FirstFault.{HasFaultAs, HasFormatFault, HasRefusalAs, IsRefusedBy}
-use Rattle.nr_trace.specs.declared.fault.Format.{Format}
-use Rattle.nr_trace.specs.declared.refusal.Refusal.{Refusal}
-use Rattle.nr_trace.specs.declared.version.Form.{Form}
-use Rattle.nr_trace.specs.declared.version.Form.TheVariants as forms
-use Rattle.nr_trace.specs.declared.fault.Format.TheVariants.{Truncated}
+use Rattle.nr_trace.specs.declared.refusals.fault.Format.{Format}
+use Rattle.nr_trace.specs.declared.refusals.refusal.Refusal.{Refusal}
+use Rattle.nr_trace.specs.declared.formats.version.Form.{Form}
+use Rattle.nr_trace.specs.declared.formats.version.Form.TheVariants as forms
+use Rattle.nr_trace.specs.declared.refusals.fault.Format.TheVariants.{Truncated}
 
 -- the bytes of all pieces so far, or why no more are taken
 pub data Fed : Type 0 where

@@ -7,17 +7,17 @@ use Rattle.vs_types.specs.declared.limits.TheConstants.{LOG_PLACES, CALLS}
 use Rattle.nr_trace.specs.Versions.{Follows, IsVersionOf, KnowsDepth, least_frames, most_frames, most_start, most_tables, most_threads}
 use Rattle.nr_trace.specs.Recording.{IsEvent}
 use Rattle.nr_trace.specs.Spelling.{magic, version_word, counts, log_word, event, dump_head, frame_number, frame_words}
-use Rattle.nr_trace.specs.declared.version.Version.{Version}
-use Rattle.nr_trace.specs.declared.version.Version.TheVariants.{V1, Segment}
-use Rattle.nr_trace.specs.declared.version.Form.{Form}
-use Rattle.nr_trace.specs.declared.version.Form.TheVariants as forms
-use Rattle.nr_trace.specs.declared.fields.Counts.{Counts}
-use Rattle.nr_trace.specs.declared.fields.DumpHead.{DumpHead}
-use Rattle.nr_trace.specs.declared.fault.Format.{Format}
-use Rattle.nr_trace.specs.declared.refusal.Refusal.{Refusal}
-use Rattle.nr_trace.specs.declared.refusal.TraceUnit.{TraceUnit}
-use Rattle.nr_trace.specs.declared.refusal.TraceUnit.TheVariants as units
-use Rattle.nr_trace.specs.declared.fault.Format.TheVariants.{Truncated, BadMagic, BadVersion, BadCount, BadChain, BadStart, BadEvent, BadFrame, Trailing}
+use Rattle.nr_trace.specs.declared.formats.version.Version.{Version}
+use Rattle.nr_trace.specs.declared.formats.version.Version.TheVariants.{V1, Segment}
+use Rattle.nr_trace.specs.declared.formats.version.Form.{Form}
+use Rattle.nr_trace.specs.declared.formats.version.Form.TheVariants as forms
+use Rattle.nr_trace.specs.declared.formats.fields.Counts.{Counts}
+use Rattle.nr_trace.specs.declared.formats.fields.DumpHead.{DumpHead}
+use Rattle.nr_trace.specs.declared.refusals.fault.Format.{Format}
+use Rattle.nr_trace.specs.declared.refusals.refusal.Refusal.{Refusal}
+use Rattle.nr_trace.specs.declared.refusals.refusal.TraceUnit.{TraceUnit}
+use Rattle.nr_trace.specs.declared.refusals.refusal.TraceUnit.TheVariants as units
+use Rattle.nr_trace.specs.declared.refusals.fault.Format.TheVariants.{Truncated, BadMagic, BadVersion, BadCount, BadChain, BadStart, BadEvent, BadFrame, Trailing}
 
 -- how many bytes a unit has; behind the last one a byte is looked at
 abbrev pub unit_size : TraceUnit → ℕ

@@ -5,7 +5,7 @@ ghost use Rattle.nr_trace.specs.Examples.{empty_dump, missing_frame, nothing_rec
 ghost use Rattle.nr_trace.specs.Examples.{stray_frame, unmapped_page};
 ghost use Rattle.nr_trace.specs.FirstFault.{HasFormatFault, HasSegmentFault};
 ghost use Rattle.nr_trace.specs.Laws.{IsFaultless};
-ghost use Rattle.nr_trace.specs.declared.fault.Format.TheVariants.{BadChain, BadMagic, BadVersion, Trailing, Truncated};
+ghost use Rattle.nr_trace.specs.declared.refusals.fault.Format.TheVariants.{BadChain, BadMagic, BadVersion, Trailing, Truncated};
 ghost use Rattle.nr_trace.specs.Calls.{IsWellFormedHistory};
 ghost use Rattle.nr_trace.specs.Examples.{access_it, access_refused, answered_again, as_version_2, looks_mapped, map_it, map_then_access};
 ghost use Rattle.nr_trace.specs.Examples.{map_then_resolve, map_then_resolve_bytes, map_then_touch, map_then_touch_bytes};
@@ -16,14 +16,14 @@ ghost use Rattle.nr_trace.specs.Orders.{answer_in, before, floor, recorded_order
 ghost use Rattle.nr_trace.specs.Recording.{IsEvent};
 ghost use Rattle.nr_trace.specs.Spelling.{spelling, Spells, SpellsSegment};
 ghost use Rattle.nr_trace.specs.Versions.{KnowsDepth};
-ghost use Rattle.nr_trace.specs.declared.event.Event.TheVariants.{Call, Reply};
-ghost use Rattle.nr_trace.specs.declared.event.Asked.TheVariants.{Request};
-ghost use Rattle.nr_trace.specs.declared.version.Version.TheVariants.{V1, V2};
-ghost use Rattle.vs_types.specs.declared.depth.Depth.TheVariants.{Five};
-ghost use Rattle.vs_types.specs.declared.answer.Answer.TheVariants.{Allowed, Done};
-ghost use Rattle.nr_trace.specs.declared.fault.Fault.TheVariants.{AnsweredTwice, Early, NoSuchCall, NotAnUpdate, NotPlaced, PastLog};
-ghost use Rattle.nr_trace.specs.declared.fault.Fault.TheVariants.{PlacedTwice, PrefixPastLog, PrefixShort, ThreadOpen, WrongAnswer};
-ghost use Rattle.nr_trace.specs.declared.fault.Fault.TheVariants.{Differs, MissingFrame, ReservedBit, SharedFrame, StrayFrame};
+ghost use Rattle.nr_trace.specs.declared.recordings.event.Event.TheVariants.{Call, Reply};
+ghost use Rattle.nr_trace.specs.declared.recordings.event.Asked.TheVariants.{Request};
+ghost use Rattle.nr_trace.specs.declared.formats.version.Version.TheVariants.{V1, V2};
+ghost use Rattle.vs_types.specs.declared.addresses.depth.Depth.TheVariants.{Five};
+ghost use Rattle.vs_types.specs.declared.requests.answer.Answer.TheVariants.{Allowed, Done};
+ghost use Rattle.nr_trace.specs.declared.refusals.fault.Fault.TheVariants.{AnsweredTwice, Early, NoSuchCall, NotAnUpdate, NotPlaced, PastLog};
+ghost use Rattle.nr_trace.specs.declared.refusals.fault.Fault.TheVariants.{PlacedTwice, PrefixPastLog, PrefixShort, ThreadOpen, WrongAnswer};
+ghost use Rattle.nr_trace.specs.declared.refusals.fault.Fault.TheVariants.{Differs, MissingFrame, ReservedBit, SharedFrame, StrayFrame};
 
 /// The update comes first, and then the read that saw it.
 pub fn map_then_resolve_order()

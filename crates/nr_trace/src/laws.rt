@@ -5,11 +5,11 @@ ghost use Rattle.std.specs.Prelude.{◌≡◌, ◌≢◌, ◌<◌, ◌≤◌, �
 ghost use Rattle.std.specs.Prelude.{None, Some, Option, Result, Err};
 ghost use Rattle.std.specs.List.{concat};
 ghost use Rattle.vs_walk.specs.Dump.{Image};
-ghost use Rattle.vs_types.specs.declared.refusal.Fail.{Fail};
-ghost use Rattle.vs_types.specs.declared.refusal.Fail.TheVariants.{Memory};
+ghost use Rattle.vs_types.specs.declared.requests.refusal.Fail.{Fail};
+ghost use Rattle.vs_types.specs.declared.requests.refusal.Fail.TheVariants.{Memory};
 ghost use Rattle.vs_types.specs.Space.{Space};
 ghost use Rattle.vs_types.specs.Step.{step};
-ghost use Rattle.vs_types.specs.declared.op.Action.{Action};
+ghost use Rattle.vs_types.specs.declared.requests.op.Action.{Action};
 ghost use Rattle.nr_trace.specs.Calls.{operation_of, reply_of, reply_to, IsOrdered, IsWellFormedHistory, Response};
 ghost use Rattle.vs_types.specs.Config.{Layout};
 ghost use Rattle.nr_trace.specs.FirstFault.{HasFormatFault, HasRefusalAs, HasSegmentFault};
@@ -20,12 +20,12 @@ ghost use Rattle.nr_trace.specs.Laws.{HasCleanLog, HasRank, IsFaultlessFrom, IsS
 ghost use Rattle.nr_trace.specs.Orders.{before, floor, known_by, recorded_order, space_from, updates, FitsFrom, IsLegalFrom};
 ghost use Rattle.nr_trace.specs.Recording.{IsThere, Recording};
 ghost use Rattle.nr_trace.specs.Spelling.{Spells, SpellsSegment};
-ghost use Rattle.nr_trace.specs.declared.fault.Fault.{Fault};
-ghost use Rattle.nr_trace.specs.declared.fault.Fault.TheVariants.{AnsweredTwice, Early, NoSuchCall, ThreadOpen, WrongAnswer};
-ghost use Rattle.nr_trace.specs.declared.fault.Format.{Format};
-ghost use Rattle.nr_trace.specs.declared.refusal.Refusal.{Refusal};
-ghost use Rattle.nr_trace.specs.declared.version.Form.{Form};
-ghost use Rattle.nr_trace.specs.declared.fault.Format.TheVariants.{Trailing, Truncated};
+ghost use Rattle.nr_trace.specs.declared.refusals.fault.Fault.{Fault};
+ghost use Rattle.nr_trace.specs.declared.refusals.fault.Fault.TheVariants.{AnsweredTwice, Early, NoSuchCall, ThreadOpen, WrongAnswer};
+ghost use Rattle.nr_trace.specs.declared.refusals.fault.Format.{Format};
+ghost use Rattle.nr_trace.specs.declared.refusals.refusal.Refusal.{Refusal};
+ghost use Rattle.nr_trace.specs.declared.formats.version.Form.{Form};
+ghost use Rattle.nr_trace.specs.declared.refusals.fault.Format.TheVariants.{Trailing, Truncated};
 
 /// Bytes spell at most one trace.
 pub fn bytes_spell_one_trace()

@@ -3,26 +3,20 @@
 //! A place is an index of the log; a call's number is the index of its event.
 #![tactic(auto)]
 
-mod event;
 pub mod examples;
-mod fault;
-mod fields;
+mod formats;
 pub mod laws;
-mod layout;
-mod ranges;
 mod reading;
-mod recorded;
-mod refusal;
-mod trace;
-mod version;
+mod recordings;
+mod refusals;
 mod writing;
 
-pub use event::{Asked, Event};
-pub use fault::{Fault, Format};
-pub use layout::TraceLayout;
+pub use formats::layout::TraceLayout;
+pub use formats::version::{Form, Version};
 pub use reading::{Feed, SegmentFeed, read};
-pub use recorded::Recorded;
-pub use refusal::{Refusal, TraceUnit};
-pub use trace::Trace;
-pub use version::{Form, Version};
+pub use recordings::event::{Asked, Event};
+pub use recordings::recorded::Recorded;
+pub use recordings::trace::Trace;
+pub use refusals::fault::{Fault, Format};
+pub use refusals::refusal::{Refusal, TraceUnit};
 pub use writing::write;

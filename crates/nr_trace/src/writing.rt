@@ -10,10 +10,10 @@ ghost use Rattle.std.specs.Prelude.{◌≡◌, IfOk, option_copied};
 ghost use Rattle.nr_trace.specs.Recording.{start_frames};
 ghost use Rattle.nr_trace.specs.Spelling.{spelling, SpellsAs};
 ghost use Rattle.nr_trace.specs.Versions.{Follows, IsVersionOf};
-ghost use Rattle.nr_trace.specs.declared.version.Form.{Form};
+ghost use Rattle.nr_trace.specs.declared.formats.version.Form.{Form};
 
-use crate::fields::Counts;
-use crate::trace::Trace;
+use crate::formats::fields::Counts;
+use crate::recordings::trace::Trace;
 use crate::writing::dumps::{put_dumps, put_start};
 use crate::writing::header::put_header;
 use crate::writing::lists::{put_events, put_log};

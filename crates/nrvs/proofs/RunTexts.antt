@@ -3,7 +3,7 @@ use Rattle.std.proofs.Common.{◌≡◌, ℕ, zero, suc, ◌+◌, ◌<◌, List,
 use Rattle.std.specs.List.{enumerate_from, flat_map}
 use Rattle.std.proofs.lemmas.List.{append-nil, append_assoc}
 use Rattle.nrvs.specs.RunText.{thread_lines}
-use Rattle.nr_serve.specs.declared.said.Said.{Said}
+use Rattle.nr_serve.specs.declared.endings.said.Said.{Said}
 
 -- the lines of the threads from `first` on
 abbrev pub lines_of : {X : Type 0} → (X → List Said) → ℕ → List X → List ℕ

@@ -10,16 +10,16 @@ use Rattle.std.proofs.lemmas.List.Elements.{All-append, All-from_recursion}
 use Rattle.std.proofs.lemmas.List.{get_or-append-add, get_or-replicate, get_or_default, length-append, length-replicate}
 use Rattle.vs_types.specs.Config.{Layout}
 use Rattle.vs_types.specs.Query.{AreScripts, IsQuery}
-use Rattle.vs_types.specs.declared.depth.Depth.{Depth}
-use Rattle.vs_types.specs.declared.request.Query.{Query}
-use Rattle.nr_core.specs.declared.step.Step.{Step}
+use Rattle.vs_types.specs.declared.addresses.depth.Depth.{Depth}
+use Rattle.vs_types.specs.declared.requests.request.Query.{Query}
+use Rattle.nr_core.specs.declared.runs.step.Step.{Step}
 use Rattle.nr_ring.specs.Pass.{Known, TableId}
-use Rattle.nr_ring.specs.declared.log_event.LogEvent.{LogEvent}
+use Rattle.nr_ring.specs.declared.ring.log_event.LogEvent.{LogEvent}
 use Rattle.nr_serve.specs.ChainOfRun.{IsOutcomeOf, RunsOn, ran_of}
 use Rattle.nr_serve.specs.RunState.{RunState, new_run}
 use Rattle.nr_serve.specs.SegmentRun.{GoesOn as GoesOnBehind, IsRightSegment, Ran}
-use Rattle.nr_serve.specs.declared.segment_outcome.SegmentOutcome.{SegmentOutcome}
-use Rattle.nr_serve.specs.declared.segment_outcome.SegmentOutcome.TheVariants.{Right, Last, Wrong}
+use Rattle.nr_serve.specs.declared.endings.segment_outcome.SegmentOutcome.{SegmentOutcome}
+use Rattle.nr_serve.specs.declared.endings.segment_outcome.SegmentOutcome.TheVariants.{Right, Last, Wrong}
 use Rattle.nr_serve.proofs.Runs.{one_log, one_log_with_last, right_with_last, runs_on}
 use Rattle.nr_script.specs.Lines.{Says}
 use Rattle.nr_script.specs.Portion.{AsksMore, EndsPortion, PortionState, TakesLines, no_portion, request_count}

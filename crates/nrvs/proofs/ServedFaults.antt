@@ -3,7 +3,7 @@ use Rattle.std.proofs.Common.{◌≡◌, ◌≤◌, ℕ, ◌++◌, List, [], ◌
 use Rattle.std.proofs.Common.{append_assoc}
 use Rattle.std.specs.List.{AllZip}
 use Rattle.std.specs.Io.KnownBytes.{Consumes}
-use Rattle.vs_types.specs.declared.depth.Depth.{Depth}
+use Rattle.vs_types.specs.declared.addresses.depth.Depth.{Depth}
 use Rattle.nr_serve.specs.RunState.{RunState}
 use Rattle.nr_script.specs.Lines.{lines, Says}
 use Rattle.nr_script.specs.Portion.{HasBadNext, IsNoRequest, PortionState, number_behind, request_count}

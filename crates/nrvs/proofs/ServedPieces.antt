@@ -4,9 +4,9 @@ use Rattle.std.proofs.lemmas.List.{length-append, take-append-drop}
 use Rattle.std.proofs.lemmas.List.Folds.{sum_by-replicate}
 use Rattle.vs_types.specs.Query.{AreScripts}
 use Rattle.vs_types.specs.Refusal.{IfRefused}
-use Rattle.vs_types.specs.declared.request.Query.{Query}
-use Rattle.vs_types.specs.declared.refusal.Fail.{Fail}
-use Rattle.vs_types.specs.declared.refusal.Fail.TheVariants as fails
+use Rattle.vs_types.specs.declared.requests.request.Query.{Query}
+use Rattle.vs_types.specs.declared.requests.refusal.Fail.{Fail}
+use Rattle.vs_types.specs.declared.requests.refusal.Fail.TheVariants as fails
 use Rattle.nr_serve.specs.RunState.{RunState}
 use Rattle.nr_script.specs.Portion.{HasBadNext, PortionState, TakesLines, request_count}
 use Rattle.nr_script.specs.declared.script.BadLine.{BadLine as BadLineOfScript}

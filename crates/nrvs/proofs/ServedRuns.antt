@@ -1,11 +1,11 @@
 -- What is written of a run is written of what it has to show.
 use Rattle.std.proofs.Common.{◌≡◌, ℕ, Bool, List, Option, inl, inr, refl}
 use Rattle.vs_types.specs.Config.{Layout}
-use Rattle.vs_types.specs.declared.depth.Depth.{Depth}
-use Rattle.vs_types.specs.declared.request.Query.{Query}
+use Rattle.vs_types.specs.declared.addresses.depth.Depth.{Depth}
+use Rattle.vs_types.specs.declared.requests.request.Query.{Query}
 use Rattle.nr_serve.specs.Run.{IfRunRefused, IfVerified, IsRefusedRun, IsVerifiedRun}
-use Rattle.nr_serve.specs.declared.outcome.Outcome.{Outcome}
-use Rattle.nr_serve.specs.declared.outcome.Outcome.TheVariants.{Verified, Refused}
+use Rattle.nr_serve.specs.declared.endings.outcome.Outcome.{Outcome}
+use Rattle.nr_serve.specs.declared.endings.outcome.Outcome.TheVariants.{Verified, Refused}
 use Rattle.nrvs.specs.ServedRun.{HasRunnable, IsRunEnd, IsRunFault, TellsRun, outcome_status, told_of}
 use Rattle.audit_readers.specs.declared.fault.ProgFault.{ProgFault}
 use Rattle.audit_readers.specs.declared.fault.ProgFault.TheVariants.{BadAddress, NotCanonical, NoSuchReplica, InputTooLong, BadLine, NoThread}

@@ -6,15 +6,15 @@ use Rattle.nr_trace.specs.Orders.{recorded_order}
 use Rattle.nr_trace.specs.Recording.{Recording, IsRecording}
 use Rattle.nr_trace.specs.Spelling.{spelling, Spells}
 use Rattle.nr_trace.specs.Versions.{IsVersionOf}
-use Rattle.nr_trace.specs.declared.version.Form.TheVariants as forms
+use Rattle.nr_trace.specs.declared.formats.version.Form.TheVariants as forms
 use Rattle.nr_audit.specs.Verdict.{verdict_status}
-use Rattle.nr_audit.specs.declared.verdict.Verdict.TheVariants.{Yes}
+use Rattle.nr_audit.specs.declared.verdicts.verdict.Verdict.TheVariants.{Yes}
 use Rattle.nr_audit.proofs.PartsOfVerdicts.{same_of}
 use Rattle.nr_script.specs.declared.script.Script.{Script}
 use Rattle.audit_readers.specs.Answers.{IsAudit, WritesReport}
 use Rattle.audit_readers.proofs.Audits.{same_status}
 use Rattle.nrvs.specs.Simulation.{HasReadScript, IsRecordingOfScript, IsSimulation, IsSimulationFault, IsTold}
-use Rattle.vs_types.specs.declared.depth.Depth.{Depth}
+use Rattle.vs_types.specs.declared.addresses.depth.Depth.{Depth}
 use Rattle.audit_readers.specs.declared.fault.ProgFault.{ProgFault}
 use Rattle.audit_readers.specs.declared.fault.ProgFault.TheVariants.{CannotWrite}
 use Rattle.nrvs.specs.declared.runs.setup.Setup.{Setup}

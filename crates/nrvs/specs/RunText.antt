@@ -2,9 +2,9 @@
 use Rattle.std.specs.Prelude.{ℕ, ◌++◌, List, codes, decimal}
 use Rattle.std.specs.List.{enumerate_from, flat_map}
 use Rattle.vs_text.specs.Words.{space}
-use Rattle.nr_trace.specs.declared.fault.Fault.{Fault}
-use Rattle.nr_serve.specs.declared.said.Said.{Said}
-use Rattle.nr_serve.specs.declared.said.Said.TheVariants.{Answer as Answered, Stopped}
+use Rattle.nr_trace.specs.declared.refusals.fault.Fault.{Fault}
+use Rattle.nr_serve.specs.declared.endings.said.Said.{Said}
+use Rattle.nr_serve.specs.declared.endings.said.Said.TheVariants.{Answer as Answered, Stopped}
 use Rattle.audit_texts.specs.Text.{answer_text, fault_text, line_end}
 
 -- the answer of a call, or that it was stopped

@@ -1,14 +1,14 @@
 -- What `run` answers to a script: what came of each call of its threads, where the run is verified; else the first fault of its trace.
 use Rattle.std.specs.Prelude.{◌≡◌, ◌≤◌, ◌⊎◌, ℕ, Bool, true, false, List, length, map, Option, Some, None, ⊤}
 use Rattle.vs_types.specs.Config.{Layout}
-use Rattle.vs_types.specs.declared.depth.Depth.{Depth}
-use Rattle.vs_types.specs.declared.request.Query.{Query}
+use Rattle.vs_types.specs.declared.addresses.depth.Depth.{Depth}
+use Rattle.vs_types.specs.declared.requests.request.Query.{Query}
 use Rattle.nr_ring.specs.Pass.{Known}
-use Rattle.nr_trace.specs.declared.fault.Fault.{Fault}
+use Rattle.nr_trace.specs.declared.refusals.fault.Fault.{Fault}
 use Rattle.nr_serve.specs.Run.{IsRefusedRun, IsVerifiedRun}
-use Rattle.nr_serve.specs.declared.outcome.Outcome.{Outcome}
-use Rattle.nr_serve.specs.declared.outcome.Outcome.TheVariants.{Verified, Refused}
-use Rattle.nr_serve.specs.declared.said.Said.{Said}
+use Rattle.nr_serve.specs.declared.endings.outcome.Outcome.{Outcome}
+use Rattle.nr_serve.specs.declared.endings.outcome.Outcome.TheVariants.{Verified, Refused}
+use Rattle.nr_serve.specs.declared.endings.said.Said.{Said}
 use Rattle.nr_script.specs.Script.{IsScript}
 use Rattle.nr_script.specs.declared.script.Script.{Script}
 use Rattle.audit_readers.specs.Answers.{IsReadOf}

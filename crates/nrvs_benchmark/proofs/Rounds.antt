@@ -1,6 +1,6 @@
 -- Rounds, one after another.
 use Rattle.std.proofs.Common.{◌≡◌, ℕ, suc, ◌+◌, ap, subst, ◌∙◌, arith}
-use Rattle.vs_types.specs.declared.depth.Depth.{Depth}
+use Rattle.vs_types.specs.declared.addresses.depth.Depth.{Depth}
 use Rattle.vs_space.specs.Table.{PageTable, IsTableOf}
 use Rattle.nrvs_benchmark.specs.declared.page_table.load.Load.{Load}
 use Rattle.nrvs_benchmark.specs.Work.{Progress, after_round, after_rounds, no_progress, IsRound}

@@ -3,8 +3,8 @@ use Rattle.std.specs.Prelude.{◌≡◌, ℕ, zero, suc, List, [], ◌∷◌, Al
 use Rattle.vs_types.specs.Space.{Space, no_pages, table_count}
 use Rattle.vs_types.specs.Operation.{IsAction}
 use Rattle.vs_types.specs.Step.{step, look, after_all}
-use Rattle.vs_types.specs.declared.depth.Depth.{Depth}
-use Rattle.vs_types.specs.declared.op.Action.{Action}
+use Rattle.vs_types.specs.declared.addresses.depth.Depth.{Depth}
+use Rattle.vs_types.specs.declared.requests.op.Action.{Action}
 use Rattle.vs_space.specs.Table.{PageTable, IsTableOf}
 use Rattle.nrvs_benchmark.specs.declared.page_table.load.Load.{Load}
 use Rattle.nrvs_benchmark.specs.Sum.{answer_number, sum_with}

@@ -10,8 +10,8 @@ use Rattle.vs_arena.proofs.MarkedFrames.{IsMarked-from_use}
 use Rattle.vs_arena.proofs.LentArenas.{was_taken, last_taken}
 use Rattle.vs_space.proofs.Numbered.{named}
 use Rattle.vs_space.proofs.Paths.{table_first}
-use Rattle.vs_types.specs.declared.depth.Depth.{Depth}
-use Rattle.vs_types.specs.declared.depth.Depth.TheVariants.{Four, Five}
+use Rattle.vs_types.specs.declared.addresses.depth.Depth.{Depth}
+use Rattle.vs_types.specs.declared.addresses.depth.Depth.TheVariants.{Four, Five}
 use Rattle.nrvs_c.specs.Table.{depth_in, is_in_range, IsOpen, IsUsable}
 use Rattle.nrvs_c.specs.declared.table.TheConstants.{MADE}
 use Rattle.nrvs_c.specs.declared.table.Table.{Table}

@@ -2,7 +2,7 @@
 use Rattle.std.proofs.Common.{◌≡◌, ap, sym, ◌∙◌}
 use Rattle.vs_types.specs.Codes.{size_code, rights_code}
 use Rattle.vs_types.specs.inside.Telling.{rights_in, size_in}
-use Rattle.vs_types.specs.declared.page.Page.{Page}
+use Rattle.vs_types.specs.declared.addresses.page.Page.{Page}
 use Rattle.vs_types.proofs.OneEntry.{rights_back, size_back}
 use Rattle.vs_types.proofs.Pages.{same_page}
 

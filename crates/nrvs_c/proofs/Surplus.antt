@@ -1,8 +1,8 @@
 -- Of the marks only as many count as there are frames.
 use Rattle.std.proofs.Common.{◌≡◌, ℕ, ◌≤◌, List, [], ◌++◌, length, take, drop, refl, sym, ap, ◌∙◌, subst, arith}
 use Rattle.std.proofs.lemmas.List.{take-append-le, take-append-drop, length-take-le, length-append}
-use Rattle.vs_types.specs.declared.op.Action.{Action}
-use Rattle.vs_types.specs.declared.answer.Answer.{Answer}
+use Rattle.vs_types.specs.declared.requests.op.Action.{Action}
+use Rattle.vs_types.specs.declared.requests.answer.Answer.{Answer}
 use Rattle.vs_arena.specs.declared.mark.FrameMark.{FrameMark}
 use Rattle.vs_space.specs.Table.{PageTable, IsTableStep}
 use Rattle.nrvs_c.specs.Table.{IsOpen, lent_table}

@@ -1,8 +1,8 @@
 -- Answers in numbers.
 use Rattle.std.specs.Prelude.{ℕ}
 use Rattle.vs_types.specs.Codes.{answer_code, size_code, rights_code}
-use Rattle.vs_types.specs.declared.answer.Answer.{Answer}
-use Rattle.vs_types.specs.declared.answer.Answer.TheVariants.{Done, Overlap, Full, Removed, NotMapped, Inside, Changed, Mapped, Allowed, Fault}
+use Rattle.vs_types.specs.declared.requests.answer.Answer.{Answer}
+use Rattle.vs_types.specs.declared.requests.answer.Answer.TheVariants.{Done, Overlap, Full, Removed, NotMapped, Inside, Changed, Mapped, Allowed, Fault}
 use Rattle.nrvs_c.specs.declared.reply.Reply.{Reply}
 
 -- a reply with a number alone

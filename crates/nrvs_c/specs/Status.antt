@@ -1,8 +1,8 @@
 -- The numbers of a call's status.
 use Rattle.std.specs.Prelude.{ℕ, ◌+◌, ◌^◌, nat_eq, nat_lt, Option, Some, None, if◌then◌else◌}
 use Rattle.vs_types.specs.declared.limits.TheConstants.{TABLES}
-use Rattle.vs_types.specs.declared.op.BadOp.{BadOp}
-use Rattle.vs_types.specs.declared.op.BadOp.TheVariants.{NotCanonical, Unaligned, PhysUnaligned, PhysRange}
+use Rattle.vs_types.specs.declared.requests.op.BadOp.{BadOp}
+use Rattle.vs_types.specs.declared.requests.op.BadOp.TheVariants.{NotCanonical, Unaligned, PhysUnaligned, PhysRange}
 
 -- the status of each thing that can be wrong with an operation
 abbrev pub status_of : BadOp → ℕ

@@ -4,14 +4,14 @@ use Rattle.std.specs.Prelude.{◌||◌, nat_eq, nat_lt, if◌then◌else◌}
 use lib.Pow.{pow_mono}
 use Rattle.std.proofs.lemmas.Bool.{le-ltb, ltb-false}
 use Rattle.vs_walk.specs.Memory.{Memory}
-use Rattle.vs_plan.specs.declared.request.Request.{Request}
-use Rattle.vs_plan.specs.declared.request.Request.TheVariants.{Map}
-use Rattle.vs_plan.specs.declared.target.Target as targets
+use Rattle.vs_plan.specs.declared.plans.request.Request.{Request}
+use Rattle.vs_plan.specs.declared.plans.request.Request.TheVariants.{Map}
+use Rattle.vs_plan.specs.declared.plans.target.Target as targets
 use Rattle.vs_types.specs.Bits.{AreBits}
 use Rattle.vs_plan.specs.Request.{IsRequest, request_fault}
-use Rattle.nrvs_plan_c.specs.declared.kept.Plan.{Plan}
-use Rattle.nrvs_plan_c.specs.declared.kept.Target.{Target}
-use Rattle.nrvs_plan_c.specs.declared.kept.Words.{Words}
+use Rattle.nrvs_plan_c.specs.declared.records.kept.Plan.{Plan}
+use Rattle.nrvs_plan_c.specs.declared.records.kept.Target.{Target}
+use Rattle.nrvs_plan_c.specs.declared.records.kept.Words.{Words}
 use Rattle.nrvs_plan_c.specs.Direct.{HasFramesWithin, HasSeen}
 use Rattle.nrvs_plan_c.specs.Kept.{IsWaiting, page_in, phase_in, planner_in, target_of}
 use Rattle.nrvs_plan_c.specs.Next.{IsPlanned, status_in}

@@ -4,17 +4,17 @@ use Rattle.std.specs.Prelude.{nat_lt, if◌then◌else◌}
 use Rattle.std.proofs.lemmas.Bool.{cases_eq, eqb-false, le-ltb, lt-ltb, ne_eqb}
 use Rattle.vs_types.specs.Depth.{levels}
 use Rattle.vs_types.specs.Page.{level_of}
-use Rattle.vs_types.specs.declared.page.Size.{Size}
-use Rattle.vs_types.specs.declared.page.Size.TheVariants.{K4, M2, G1}
+use Rattle.vs_types.specs.declared.addresses.page.Size.{Size}
+use Rattle.vs_types.specs.declared.addresses.page.Size.TheVariants.{K4, M2, G1}
 use Rattle.vs_walk.specs.Memory.{Memory}
-use Rattle.vs_plan.specs.declared.request.Request.{Request}
-use Rattle.vs_plan.specs.declared.request.Request.TheVariants.{Map, Unmap, Protect, Ask, Remap, Split, Join, Prune, UnmapPart, Collapse}
-use Rattle.vs_plan.specs.declared.target.Target as targets
+use Rattle.vs_plan.specs.declared.plans.request.Request.{Request}
+use Rattle.vs_plan.specs.declared.plans.request.Request.TheVariants.{Map, Unmap, Protect, Ask, Remap, Split, Join, Prune, UnmapPart, Collapse}
+use Rattle.vs_plan.specs.declared.plans.target.Target as targets
 use Rattle.vs_plan.specs.Request.{IsRequest, IsWhole, lowest_of}
 use Rattle.vs_plan.specs.Target.{highest_link}
 use Rattle.nrvs_plan_c.specs.declared.end.End.{End}
-use Rattle.nrvs_plan_c.specs.declared.kept.Call.{Call}
-use Rattle.nrvs_plan_c.specs.declared.kept.Plan.{Plan}
+use Rattle.nrvs_plan_c.specs.declared.records.kept.Call.{Call}
+use Rattle.nrvs_plan_c.specs.declared.records.kept.Plan.{Plan}
 use Rattle.nrvs_plan_c.specs.Kept.{depth_in, page_in, request_in, rights_in, shows_left, size_in, target_at, target_in}
 use Rattle.nrvs_plan_c.specs.Next.{IsPlanned, shows_most}
 use Rattle.nrvs_plan_c.specs.inside.End.{IsEndOf, IsRightFor}

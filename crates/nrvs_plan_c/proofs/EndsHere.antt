@@ -6,13 +6,13 @@ use Rattle.vs_types.specs.Depth.{index_at}
 use Rattle.vs_walk.specs.Memory.{Memory}
 use Rattle.vs_space.specs.Held.{word_at}
 use Rattle.vs_space.proofs.Prunes.{word_in}
-use Rattle.vs_plan.specs.declared.request.Request.{Request}
-use Rattle.vs_plan.specs.declared.request.Request.TheVariants.{Map}
+use Rattle.vs_plan.specs.declared.plans.request.Request.{Request}
+use Rattle.vs_plan.specs.declared.plans.request.Request.TheVariants.{Map}
 use Rattle.vs_plan.specs.Request.{IsRequest, lowest_of}
 use Rattle.vs_plan.specs.Shown.{IsShown}
 use Rattle.nrvs_plan_c.specs.declared.end.End.{End}
-use Rattle.nrvs_plan_c.specs.declared.kept.Call.{Call}
-use Rattle.nrvs_plan_c.specs.declared.kept.Plan.{Plan}
+use Rattle.nrvs_plan_c.specs.declared.records.kept.Call.{Call}
+use Rattle.nrvs_plan_c.specs.declared.records.kept.Plan.{Plan}
 use Rattle.nrvs_plan_c.specs.Kept.{IsSound, IsWaiting, page_in, phase_in, planner_in, request_in, target_in}
 use Rattle.nrvs_plan_c.specs.Next.{IsNextOf, IsPlanned, status_in}
 use Rattle.nrvs_plan_c.specs.inside.End.{IsMade, IsRightFor, Stays}

@@ -2,16 +2,16 @@
 use Rattle.std.proofs.Common.{◌≡◌, ℕ, ◌≤◌, List, [], ◌∷◌, length, None, take, refl, ap, ◌∙◌, arith}
 use Rattle.std.specs.Prelude.{slice_set}
 use Rattle.vs_walk.specs.Memory.{Memory}
-use Rattle.vs_plan.specs.declared.plan.Flush.{Flush}
-use Rattle.vs_plan.specs.declared.plan.Flush.TheVariants as flushes
-use Rattle.vs_plan.specs.declared.plan.Plan as plans
-use Rattle.vs_plan.specs.declared.plan.Reply as outcomes
-use Rattle.vs_plan.specs.declared.plan.Store.{Store}
-use Rattle.vs_plan.specs.declared.request.Request.{Request}
-use Rattle.vs_plan.specs.declared.target.Target.{Target}
+use Rattle.vs_plan.specs.declared.plans.plan.Flush.{Flush}
+use Rattle.vs_plan.specs.declared.plans.plan.Flush.TheVariants as flushes
+use Rattle.vs_plan.specs.declared.plans.plan.Plan as plans
+use Rattle.vs_plan.specs.declared.plans.plan.Reply as outcomes
+use Rattle.vs_plan.specs.declared.plans.plan.Store.{Store}
+use Rattle.vs_plan.specs.declared.plans.request.Request.{Request}
+use Rattle.vs_plan.specs.declared.plans.target.Target.{Target}
 use Rattle.nrvs_plan_c.specs.declared.end.End.{End}
-use Rattle.nrvs_plan_c.specs.declared.kept.Plan.{Plan}
-use Rattle.nrvs_plan_c.specs.declared.told.Reply.{Reply}
+use Rattle.nrvs_plan_c.specs.declared.records.kept.Plan.{Plan}
+use Rattle.nrvs_plan_c.specs.declared.records.told.Reply.{Reply}
 use Rattle.nrvs_plan_c.specs.Next.{IsPlanned}
 use Rattle.nrvs_plan_c.specs.Told.{IsTold, bits_told, flush_numbers, reply_numbers}
 use Rattle.nrvs_plan_c.specs.inside.Written.{HasNone, HasStore, store_of}

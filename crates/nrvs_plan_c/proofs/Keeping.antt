@@ -6,20 +6,20 @@ use Rattle.std.proofs.lemmas.Bool.{ne_eqb}
 use Rattle.vs_types.specs.Codes.{rights_code}
 use Rattle.vs_types.specs.Depth.{levels}
 use Rattle.vs_types.specs.Space.{Space}
-use Rattle.vs_types.specs.declared.page.Rights.{Rights}
+use Rattle.vs_types.specs.declared.addresses.page.Rights.{Rights}
 use Rattle.vs_walk.specs.Memory.{Memory}
-use Rattle.vs_plan.specs.declared.plan.Plan as plans
-use Rattle.vs_plan.specs.declared.plan.Store.{Store}
-use Rattle.vs_plan.specs.declared.planner.Phase.{Phase}
-use Rattle.vs_plan.specs.declared.planner.Phase.TheVariants as phases
-use Rattle.vs_plan.specs.declared.planner.Planner.{Planner}
-use Rattle.vs_plan.specs.declared.request.Request.{Request}
-use Rattle.vs_plan.specs.declared.target.Target.{Target}
+use Rattle.vs_plan.specs.declared.plans.plan.Plan as plans
+use Rattle.vs_plan.specs.declared.plans.plan.Store.{Store}
+use Rattle.vs_plan.specs.declared.plans.planner.Phase.{Phase}
+use Rattle.vs_plan.specs.declared.plans.planner.Phase.TheVariants as phases
+use Rattle.vs_plan.specs.declared.plans.planner.Planner.{Planner}
+use Rattle.vs_plan.specs.declared.plans.request.Request.{Request}
+use Rattle.vs_plan.specs.declared.plans.target.Target.{Target}
 use Rattle.vs_plan.specs.Premise.{IsPremise}
 use Rattle.vs_plan.specs.Request.{address_of}
 use Rattle.vs_plan.specs.Right.{IsRight}
-use Rattle.nrvs_plan_c.specs.declared.kept.Call.{Call}
-use Rattle.nrvs_plan_c.specs.declared.kept.Plan.{Plan}
+use Rattle.nrvs_plan_c.specs.declared.records.kept.Call.{Call}
+use Rattle.nrvs_plan_c.specs.declared.records.kept.Plan.{Plan}
 use Rattle.nrvs_plan_c.specs.Kept.{depth_in, phase_in, request_in, rights_in, shows_left, target_at, target_in}
 
 -- but on the first way down of an unmap a way is gone for the page table that the plan is for

@@ -4,17 +4,17 @@ use Rattle.std.specs.Prelude.{◌&&◌, ◌||◌, not, nat_eq, slice_index_or, s
 use Rattle.std.proofs.Math.Seq.{take-set-lt}
 use Rattle.std.proofs.lemmas.Bool.{ne_eqb}
 use Rattle.std.proofs.lemmas.List.{get_or-take, get_or_default, length-set}
-use Rattle.vs_types.specs.declared.answer.Answer.TheVariants as answers
-use Rattle.vs_plan.specs.declared.plan.Fill.{Fill}
-use Rattle.vs_plan.specs.declared.plan.Plan as plans
-use Rattle.vs_plan.specs.declared.plan.Reply as outcomes
-use Rattle.vs_plan.specs.declared.plan.Reply.TheVariants as replies
-use Rattle.vs_plan.specs.declared.plan.Store.{Store}
+use Rattle.vs_types.specs.declared.requests.answer.Answer.TheVariants as answers
+use Rattle.vs_plan.specs.declared.plans.plan.Fill.{Fill}
+use Rattle.vs_plan.specs.declared.plans.plan.Plan as plans
+use Rattle.vs_plan.specs.declared.plans.plan.Reply as outcomes
+use Rattle.vs_plan.specs.declared.plans.plan.Reply.TheVariants as replies
+use Rattle.vs_plan.specs.declared.plans.plan.Store.{Store}
 use Rattle.vs_plan.specs.Again.{IsPlanAgain, new_again, told_again, bits_again as bits_made, fill_again as fill_made}
 use Rattle.vs_types.specs.Bits.{HasFlagsSet, flags_into, with_flags_of}
 use Rattle.vs_plan.specs.Answered.{Changes}
-use Rattle.nrvs_plan_c.specs.declared.kept.Plan.{Plan}
-use Rattle.nrvs_plan_c.specs.declared.told.Reply.{Reply}
+use Rattle.nrvs_plan_c.specs.declared.records.kept.Plan.{Plan}
+use Rattle.nrvs_plan_c.specs.declared.records.told.Reply.{Reply}
 use Rattle.nrvs_plan_c.specs.Told.{IsFillTold, IsTold, bits_told, plan_again, reply_numbers, store_again, store_at}
 
 -- the bits of a plan with a store are said as they are

@@ -6,18 +6,18 @@ use Rattle.std.proofs.lemmas.Bool.{cases_lt}
 use Rattle.vs_types.specs.Depth.{index_at, levels}
 use Rattle.vs_types.specs.Entry.{meaning}
 use Rattle.vs_types.specs.Page.{bytes_of, intersection, level_of}
-use Rattle.vs_types.specs.declared.depth.Depth.{Depth}
-use Rattle.vs_types.specs.declared.page.Rights.{Rights}
-use Rattle.vs_types.specs.declared.page.Size.{Size}
-use Rattle.vs_types.specs.declared.page.Size.TheVariants.{K4, M2, G1}
-use Rattle.vs_types.specs.declared.entry.Meaning.TheVariants as entry
+use Rattle.vs_types.specs.declared.addresses.depth.Depth.{Depth}
+use Rattle.vs_types.specs.declared.addresses.page.Rights.{Rights}
+use Rattle.vs_types.specs.declared.addresses.page.Size.{Size}
+use Rattle.vs_types.specs.declared.addresses.page.Size.TheVariants.{K4, M2, G1}
+use Rattle.vs_types.specs.declared.entries.entry.Meaning.TheVariants as entry
 use Rattle.vs_walk.specs.Memory.{Memory}
 use Rattle.vs_space.specs.Path.{found_at}
 use Rattle.vs_space.proofs.Paths.{words_found}
-use Rattle.vs_plan.specs.declared.planner.Phase.TheVariants.{Descent}
-use Rattle.vs_plan.specs.declared.request.Request.{Request}
-use Rattle.vs_plan.specs.declared.request.Request.TheVariants.{Map, Unmap, Protect, Ask}
-use Rattle.vs_plan.specs.declared.target.Target.{Target}
+use Rattle.vs_plan.specs.declared.plans.planner.Phase.TheVariants.{Descent}
+use Rattle.vs_plan.specs.declared.plans.request.Request.{Request}
+use Rattle.vs_plan.specs.declared.plans.request.Request.TheVariants.{Map, Unmap, Protect, Ask}
+use Rattle.vs_plan.specs.declared.plans.target.Target.{Target}
 use Rattle.vs_plan.specs.Request.{lowest_of}
 use Rattle.vs_plan.specs.Shown.{IsShown}
 use Rattle.vs_plan.specs.Target.{frames_end}
@@ -26,7 +26,7 @@ use Rattle.vs_plan.proofs.Ways.{way_within}
 use Rattle.vs_range.specs.declared.planner.RangePlanner.{RangePlanner}
 use Rattle.vs_range.specs.Planner.{IsMap, IsInRun, IsPageAt, IsRanged, IsSeenPage}
 use Rattle.vs_range.proofs.Seeing.{descended}
-use Rattle.nrvs_plan_c.specs.declared.range.Run.{Run}
+use Rattle.nrvs_plan_c.specs.declared.records.range.Run.{Run}
 use Rattle.nrvs_plan_c.specs.Direct.{HasNoneBeyond}
 use Rattle.nrvs_plan_c.specs.Kept.{phase_in, planner_in, request_in, target_in}
 use Rattle.vs_types.specs.Bits.{rights_at}

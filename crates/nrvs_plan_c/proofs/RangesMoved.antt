@@ -1,10 +1,10 @@
 -- What is said of a range is said of each with the same parts.
 use Rattle.std.proofs.Common.{◌≡◌, ℕ, subst}
-use Rattle.vs_types.specs.declared.page.Size.{Size}
+use Rattle.vs_types.specs.declared.addresses.page.Size.{Size}
 use Rattle.vs_types.specs.Space.{Space}
 use Rattle.vs_walk.specs.Memory.{Memory}
-use Rattle.vs_plan.specs.declared.request.Request.{Request}
-use Rattle.vs_plan.specs.declared.target.Target.{Target}
+use Rattle.vs_plan.specs.declared.plans.request.Request.{Request}
+use Rattle.vs_plan.specs.declared.plans.target.Target.{Target}
 use Rattle.vs_plan.specs.Premise.{IsPremise}
 use Rattle.vs_range.specs.declared.planner.RangePlanner.{RangePlanner}
 use Rattle.vs_range.specs.declared.run.Run.{Run}

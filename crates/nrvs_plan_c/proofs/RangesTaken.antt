@@ -4,21 +4,21 @@ use Rattle.std.specs.Int.{from_bool}
 use Rattle.std.specs.Prelude.{nat_eq, slice_index}
 use Rattle.vs_types.specs.Depth.{index_at}
 use Rattle.vs_types.specs.Entry.{meaning}
-use Rattle.vs_types.specs.declared.page.Rights.{Rights}
-use Rattle.vs_types.specs.declared.page.Size.{Size}
-use Rattle.vs_types.specs.declared.entry.Meaning.TheVariants as entry
-use Rattle.vs_plan.specs.declared.planner.Phase.TheVariants.{Descent, Search}
-use Rattle.vs_plan.specs.declared.planner.Planner.{Planner}
-use Rattle.vs_plan.specs.declared.request.Request.{Request}
-use Rattle.vs_plan.specs.declared.request.Request.TheVariants.{Map}
-use Rattle.vs_plan.specs.declared.target.Target.{Target}
+use Rattle.vs_types.specs.declared.addresses.page.Rights.{Rights}
+use Rattle.vs_types.specs.declared.addresses.page.Size.{Size}
+use Rattle.vs_types.specs.declared.entries.entry.Meaning.TheVariants as entry
+use Rattle.vs_plan.specs.declared.plans.planner.Phase.TheVariants.{Descent, Search}
+use Rattle.vs_plan.specs.declared.plans.planner.Planner.{Planner}
+use Rattle.vs_plan.specs.declared.plans.request.Request.{Request}
+use Rattle.vs_plan.specs.declared.plans.request.Request.TheVariants.{Map}
+use Rattle.vs_plan.specs.declared.plans.target.Target.{Target}
 use Rattle.vs_plan.specs.Request.{lowest_of}
 use Rattle.vs_plan.specs.Target.{frames_end}
 use Rattle.vs_range.specs.declared.planner.RangePlanner.{RangePlanner}
 use Rattle.vs_range.specs.declared.planner.RangeStep.{RangeStep}
 use Rattle.vs_range.specs.declared.planner.RangeStep.TheVariants.{Runs, Harvests}
 use Rattle.vs_range.specs.Planner.{FollowsLink, IsMap, IsInRun, IsPageAt, IsRunStep, TakesPage}
-use Rattle.nrvs_plan_c.specs.declared.range.Run.{Run}
+use Rattle.nrvs_plan_c.specs.declared.records.range.Run.{Run}
 use Rattle.nrvs_plan_c.specs.Kept.{phase_in, request_in, target_at, target_in}
 use Rattle.nrvs_plan_c.specs.Range.{range_in, IsRunStatus, IsSoundRange, TakesPageOf}
 use Rattle.nrvs_plan_c.specs.inside.Stepped.{FollowsLinkOf, IsStatusOf}

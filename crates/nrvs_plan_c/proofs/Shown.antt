@@ -7,9 +7,9 @@ use Rattle.vs_types.specs.Depth.{index_at, levels}
 use Rattle.vs_types.specs.Entry.{all_rights}
 use Rattle.vs_walk.specs.Memory.{Memory}
 use Rattle.vs_space.specs.Held.{word_at}
-use Rattle.vs_plan.specs.declared.planner.Phase.{Phase}
-use Rattle.vs_plan.specs.declared.request.Request.TheVariants.{Unmap}
-use Rattle.vs_plan.specs.declared.target.Target as targets
+use Rattle.vs_plan.specs.declared.plans.planner.Phase.{Phase}
+use Rattle.vs_plan.specs.declared.plans.request.Request.TheVariants.{Unmap}
+use Rattle.vs_plan.specs.declared.plans.target.Target as targets
 use Rattle.vs_plan.specs.Planner.{AwaitsWords, Sees}
 use Rattle.vs_plan.specs.Request.{IsRequest, address_of, lowest_of}
 use Rattle.vs_plan.specs.Shown.{IsDescended, IsShown, IsShownIn}
@@ -17,8 +17,8 @@ use Rattle.vs_plan.specs.Target.{frames_end, highest_link}
 use Rattle.vs_plan.specs.Way.{IsWay, Begins}
 use Rattle.vs_plan.proofs.Requests.{low_request}
 use Rattle.nrvs_plan_c.specs.declared.end.End.{End}
-use Rattle.nrvs_plan_c.specs.declared.kept.Met.{Met}
-use Rattle.nrvs_plan_c.specs.declared.kept.Plan.{Plan}
+use Rattle.nrvs_plan_c.specs.declared.records.kept.Met.{Met}
+use Rattle.nrvs_plan_c.specs.declared.records.kept.Plan.{Plan}
 use Rattle.nrvs_plan_c.specs.Kept.{IsSound, IsWaiting, phase_in, planner_in, request_in, target_at, target_in}
 use Rattle.vs_types.specs.Bits.{rights_at}
 use Rattle.nrvs_plan_c.specs.Next.{IsAtRoot, IsNextOf, IsPlanned, status_in}

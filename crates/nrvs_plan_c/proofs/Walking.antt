@@ -5,21 +5,21 @@ use Rattle.std.specs.FinMap as finite
 use Rattle.vs_types.specs.Depth.{index_at}
 use Rattle.vs_types.specs.Entry.{all_rights, meaning, rights_of}
 use Rattle.vs_types.specs.Page.{intersection}
-use Rattle.vs_types.specs.declared.depth.Depth.{Depth}
-use Rattle.vs_types.specs.declared.entry.Meaning.TheVariants as entry
+use Rattle.vs_types.specs.declared.addresses.depth.Depth.{Depth}
+use Rattle.vs_types.specs.declared.entries.entry.Meaning.TheVariants as entry
 use Rattle.vs_walk.specs.Memory.{Memory}
 use Rattle.vs_space.specs.Held.{word_at}
 use Rattle.vs_space.proofs.Prunes.{word_in}
-use Rattle.vs_plan.specs.declared.planner.Phase.{Phase}
-use Rattle.vs_plan.specs.declared.planner.Phase.TheVariants as phases
-use Rattle.vs_plan.specs.declared.planner.Planner.{Planner}
-use Rattle.vs_plan.specs.declared.target.Target.{Target}
+use Rattle.vs_plan.specs.declared.plans.planner.Phase.{Phase}
+use Rattle.vs_plan.specs.declared.plans.planner.Phase.TheVariants as phases
+use Rattle.vs_plan.specs.declared.plans.planner.Planner.{Planner}
+use Rattle.vs_plan.specs.declared.plans.target.Target.{Target}
 use Rattle.vs_plan.specs.Planner.{AwaitsWords}
 use Rattle.vs_plan.specs.Target.{frames_end}
 use Rattle.vs_plan.specs.Way.{IsWay, Begins}
 use Rattle.vs_plan.proofs.Stored.{found_word}
 use Rattle.vs_plan.proofs.Ways.{way_on}
-use Rattle.nrvs_plan_c.specs.declared.kept.Words.{Words}
+use Rattle.nrvs_plan_c.specs.declared.records.kept.Words.{Words}
 use Rattle.nrvs_plan_c.specs.Direct.{HasFramesWithin}
 use Rattle.nrvs_plan_c.specs.Kept.{IsWaiting, depth_in}
 use Rattle.vs_types.specs.Bits.{rights_at}

@@ -2,14 +2,14 @@
 use Rattle.std.specs.Prelude.{◌≡◌, ◌≢◌, ◌⊎◌, ℕ, ◌+◌, ◌<◌, ◌≤◌, List, [], length, slice_index_or, Some, None}
 use Rattle.std.specs.FinMap as finite
 use Rattle.vs_walk.specs.Memory.{Memory}
-use Rattle.vs_plan.specs.declared.plan.TheConstants.{MOST_UNLINKED}
-use Rattle.vs_plan.specs.declared.request.Request.{Request}
-use Rattle.vs_plan.specs.declared.target.Target.{Target}
+use Rattle.vs_plan.specs.declared.plans.plan.TheConstants.{MOST_UNLINKED}
+use Rattle.vs_plan.specs.declared.plans.request.Request.{Request}
+use Rattle.vs_plan.specs.declared.plans.target.Target.{Target}
 use Rattle.vs_plan.specs.Planner.{frames_given}
 use Rattle.vs_plan.specs.Target.{frames_end}
-use Rattle.nrvs_plan_c.specs.declared.codes.TheConstants.{ENDED}
-use Rattle.nrvs_plan_c.specs.declared.kept.Plan.{Plan}
-use Rattle.nrvs_plan_c.specs.declared.kept.Words.{Words}
+use Rattle.nrvs_plan_c.specs.declared.records.codes.TheConstants.{ENDED}
+use Rattle.nrvs_plan_c.specs.declared.records.kept.Plan.{Plan}
+use Rattle.nrvs_plan_c.specs.declared.records.kept.Words.{Words}
 use Rattle.nrvs_plan_c.specs.Kept.{IsSound, phase_in, planner_in, request_in, target_in}
 use Rattle.nrvs_plan_c.specs.Next.{IsNextFor, status_in}
 

@@ -2,23 +2,23 @@
 use Rattle.std.specs.Prelude.{ℕ, ◌+◌, ◌/◌, ◌%◌, ◌≤◌, ◌||◌, Bool, min, nat_eq, take, if◌then◌else◌}
 use Rattle.vs_types.specs.Bits.{rights_at}
 use Rattle.vs_types.specs.Depth.{levels}
-use Rattle.vs_types.specs.declared.depth.Depth.{Depth}
-use Rattle.vs_types.specs.declared.depth.Depth.TheVariants.{Four, Five}
-use Rattle.vs_types.specs.declared.page.Page.{Page}
-use Rattle.vs_types.specs.declared.page.Rights.{Rights}
-use Rattle.vs_types.specs.declared.page.Size.{Size}
-use Rattle.vs_types.specs.declared.page.Size.TheVariants.{K4, M2, G1}
-use Rattle.vs_plan.specs.declared.plan.TheConstants.{MOST_STORES}
-use Rattle.vs_plan.specs.declared.planner.Phase.{Phase}
-use Rattle.vs_plan.specs.declared.planner.Phase.TheVariants.{Descent, Search, Growth, Division, Ended}
-use Rattle.vs_plan.specs.declared.planner.Planner.{Planner}
-use Rattle.vs_plan.specs.declared.request.Request.{Request}
-use Rattle.vs_plan.specs.declared.request.Request.TheVariants.{Map, Unmap, Protect, Ask, Remap, Split, Join, Prune, UnmapPart, Collapse}
-use Rattle.vs_plan.specs.declared.target.Target as targets
+use Rattle.vs_types.specs.declared.addresses.depth.Depth.{Depth}
+use Rattle.vs_types.specs.declared.addresses.depth.Depth.TheVariants.{Four, Five}
+use Rattle.vs_types.specs.declared.addresses.page.Page.{Page}
+use Rattle.vs_types.specs.declared.addresses.page.Rights.{Rights}
+use Rattle.vs_types.specs.declared.addresses.page.Size.{Size}
+use Rattle.vs_types.specs.declared.addresses.page.Size.TheVariants.{K4, M2, G1}
+use Rattle.vs_plan.specs.declared.plans.plan.TheConstants.{MOST_STORES}
+use Rattle.vs_plan.specs.declared.plans.planner.Phase.{Phase}
+use Rattle.vs_plan.specs.declared.plans.planner.Phase.TheVariants.{Descent, Search, Growth, Division, Ended}
+use Rattle.vs_plan.specs.declared.plans.planner.Planner.{Planner}
+use Rattle.vs_plan.specs.declared.plans.request.Request.{Request}
+use Rattle.vs_plan.specs.declared.plans.request.Request.TheVariants.{Map, Unmap, Protect, Ask, Remap, Split, Join, Prune, UnmapPart, Collapse}
+use Rattle.vs_plan.specs.declared.plans.target.Target as targets
 use Rattle.vs_plan.specs.Planner.{AwaitsWords, AwaitsFrame}
-use Rattle.nrvs_plan_c.specs.declared.kept.Call.{Call}
-use Rattle.nrvs_plan_c.specs.declared.kept.Plan.{Plan}
-use Rattle.nrvs_plan_c.specs.declared.kept.Target.{Target}
+use Rattle.nrvs_plan_c.specs.declared.records.kept.Call.{Call}
+use Rattle.nrvs_plan_c.specs.declared.records.kept.Plan.{Plan}
+use Rattle.nrvs_plan_c.specs.declared.records.kept.Target.{Target}
 
 -- the depth with so many levels
 abbrev pub depth_in : ℕ → Depth

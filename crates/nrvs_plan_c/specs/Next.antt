@@ -3,18 +3,18 @@ use Rattle.std.specs.Prelude.{◌≡◌, ℕ, ◌+◌, List, Option, nat_lt, if�
 use Rattle.vs_types.specs.Depth.{levels}
 use Rattle.vs_types.specs.Space.{Space}
 use Rattle.vs_walk.specs.Memory.{Memory}
-use Rattle.vs_plan.specs.declared.plan.Plan as plans
-use Rattle.vs_plan.specs.declared.planner.Phase.{Phase}
-use Rattle.vs_plan.specs.declared.request.Request.{Request}
-use Rattle.vs_plan.specs.declared.request.Request.TheVariants.{Unmap}
-use Rattle.vs_plan.specs.declared.target.Target.{Target}
-use Rattle.vs_plan.specs.declared.planner.Phase.TheVariants.{Descent, Search, Growth, Division, Ended}
+use Rattle.vs_plan.specs.declared.plans.plan.Plan as plans
+use Rattle.vs_plan.specs.declared.plans.planner.Phase.{Phase}
+use Rattle.vs_plan.specs.declared.plans.request.Request.{Request}
+use Rattle.vs_plan.specs.declared.plans.request.Request.TheVariants.{Unmap}
+use Rattle.vs_plan.specs.declared.plans.target.Target.{Target}
+use Rattle.vs_plan.specs.declared.plans.planner.Phase.TheVariants.{Descent, Search, Growth, Division, Ended}
 use Rattle.vs_plan.specs.Premise.{IsPremise}
 use Rattle.vs_plan.specs.Request.{address_of}
 use Rattle.vs_plan.specs.Right.{IsRight}
 use Rattle.vs_plan.specs.Shown.{IsShown}
 use Rattle.vs_plan.specs.Target.{highest_link}
-use Rattle.nrvs_plan_c.specs.declared.kept.Plan.{Plan}
+use Rattle.nrvs_plan_c.specs.declared.records.kept.Plan.{Plan}
 use Rattle.nrvs_plan_c.specs.Kept.{IsSound, phase_in, planner_in, request_in, shows_left, target_in}
 use Rattle.nrvs_plan_c.specs.Told.{IsTold}
 

@@ -5,13 +5,13 @@ use Rattle.vs_types.specs.Codes.{size_code}
 use Rattle.vs_types.specs.Depth.{levels}
 use Rattle.vs_types.specs.Page.{bytes_of}
 use Rattle.vs_types.specs.Space.{Space}
-use Rattle.vs_types.specs.declared.page.Size.{Size}
+use Rattle.vs_types.specs.declared.addresses.page.Size.{Size}
 use Rattle.vs_walk.specs.Memory.{Memory}
-use Rattle.vs_plan.specs.declared.plan.TheConstants.{MOST_UNLINKED}
-use Rattle.vs_plan.specs.declared.planner.Phase.TheVariants.{Descent}
-use Rattle.vs_plan.specs.declared.request.Request.{Request}
-use Rattle.vs_plan.specs.declared.request.Request.TheVariants.{Map}
-use Rattle.vs_plan.specs.declared.target.Target.{Target}
+use Rattle.vs_plan.specs.declared.plans.plan.TheConstants.{MOST_UNLINKED}
+use Rattle.vs_plan.specs.declared.plans.planner.Phase.TheVariants.{Descent}
+use Rattle.vs_plan.specs.declared.plans.request.Request.{Request}
+use Rattle.vs_plan.specs.declared.plans.request.Request.TheVariants.{Map}
+use Rattle.vs_plan.specs.declared.plans.target.Target.{Target}
 use Rattle.vs_plan.specs.Premise.{IsPremise}
 use Rattle.vs_plan.specs.Request.{address_of, request_fault}
 use Rattle.vs_plan.specs.Shown.{IsShown}
@@ -21,9 +21,9 @@ use Rattle.vs_range.specs.declared.run.Forget.TheVariants.{Nothing, Pages}
 use Rattle.vs_range.specs.declared.run.Run as ranged
 use Rattle.vs_range.specs.Planner.{are_pages, IsMap, IsRanged, IsRunNext, IsHarvestNext, IsAbsentFor, EndsBeyond, IsSeenPage, IsInRun, range_sees}
 use Rattle.vs_range.specs.Run.{word_after}
-use Rattle.nrvs_plan_c.specs.declared.codes.TheConstants.{ENDED}
-use Rattle.nrvs_plan_c.specs.declared.kept.Target as targets
-use Rattle.nrvs_plan_c.specs.declared.range.Run.{Run}
+use Rattle.nrvs_plan_c.specs.declared.records.codes.TheConstants.{ENDED}
+use Rattle.nrvs_plan_c.specs.declared.records.kept.Target as targets
+use Rattle.nrvs_plan_c.specs.declared.records.range.Run.{Run}
 use Rattle.nrvs_plan_c.specs.Kept.{IsSound, page_in, phase_in, planner_in, request_in, size_in, target_in, target_of}
 use Rattle.nrvs_plan_c.specs.Next.{IsPlanned, status_in}
 use Rattle.nrvs_plan_c.specs.Status.{begun_status, target_status}

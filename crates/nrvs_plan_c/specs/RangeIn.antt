@@ -2,13 +2,13 @@
 use Rattle.std.specs.Prelude.{◌≡◌, ◌≢◌, ℕ, false, List, [], length, Some}
 use Rattle.std.specs.FinMap as finite
 use Rattle.vs_walk.specs.Memory.{Memory}
-use Rattle.vs_plan.specs.declared.request.Request.{Request}
-use Rattle.vs_plan.specs.declared.target.Target.{Target}
+use Rattle.vs_plan.specs.declared.plans.request.Request.{Request}
+use Rattle.vs_plan.specs.declared.plans.target.Target.{Target}
 use Rattle.vs_plan.specs.Planner.{frames_given}
 use Rattle.vs_plan.specs.Way.{IsWay}
 use Rattle.vs_range.specs.declared.planner.RangePlanner.{RangePlanner}
-use Rattle.nrvs_plan_c.specs.declared.kept.Words.{Words}
-use Rattle.nrvs_plan_c.specs.declared.range.Run.{Run}
+use Rattle.nrvs_plan_c.specs.declared.records.kept.Words.{Words}
+use Rattle.nrvs_plan_c.specs.declared.records.range.Run.{Run}
 use Rattle.nrvs_plan_c.specs.Direct.{HasFramesWithin, HasNoneBeyond, IsElsewhere}
 use Rattle.nrvs_plan_c.specs.Kept.{planner_in, request_in, target_in}
 use Rattle.nrvs_plan_c.specs.Range.{IsRangeNextOf, IsRangeStatus, IsSoundRange, TakesPageOf}

@@ -1,7 +1,7 @@
 -- The numbers of a call's status.
 use Rattle.std.specs.Prelude.{ℕ, nat_eq, nat_lt, Option, Some, None, ◌||◌, if◌then◌else◌}
-use Rattle.vs_plan.specs.declared.request.BadRequest.{BadRequest}
-use Rattle.vs_plan.specs.declared.request.BadRequest.TheVariants.{PhysBits, RootRange, NotCanonical, Unaligned, PhysUnaligned, PhysRange, Bits, Part}
+use Rattle.vs_plan.specs.declared.plans.request.BadRequest.{BadRequest}
+use Rattle.vs_plan.specs.declared.plans.request.BadRequest.TheVariants.{PhysBits, RootRange, NotCanonical, Unaligned, PhysUnaligned, PhysRange, Bits, Part}
 
 -- the status of each thing that can be wrong with a request
 abbrev pub status_of : BadRequest → ℕ

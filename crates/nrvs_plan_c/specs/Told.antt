@@ -1,20 +1,20 @@
 -- A plan in numbers.
 use Rattle.std.specs.Prelude.{◌≡◌, ℕ, ◌&&◌, ◌||◌, Bool, not, Option, Some, None, nat_eq, length, take, slice_index_or, slice_set, [], if◌then◌else◌}
 use Rattle.vs_types.specs.Codes.{size_code, rights_code}
-use Rattle.vs_types.specs.declared.answer.Answer.{Answer}
-use Rattle.vs_types.specs.declared.answer.Answer.TheVariants as answers
-use Rattle.vs_plan.specs.declared.plan.Fill.{Fill}
-use Rattle.vs_plan.specs.declared.plan.Flush.{Flush}
-use Rattle.vs_plan.specs.declared.plan.Flush.TheVariants as flushes
+use Rattle.vs_types.specs.declared.requests.answer.Answer.{Answer}
+use Rattle.vs_types.specs.declared.requests.answer.Answer.TheVariants as answers
+use Rattle.vs_plan.specs.declared.plans.plan.Fill.{Fill}
+use Rattle.vs_plan.specs.declared.plans.plan.Flush.{Flush}
+use Rattle.vs_plan.specs.declared.plans.plan.Flush.TheVariants as flushes
 use Rattle.vs_plan.specs.Again.{IsPlanAgain}
 use Rattle.vs_types.specs.Bits.{flags_into, with_flags_of}
 use Rattle.vs_plan.specs.Answered.{Changes}
-use Rattle.vs_plan.specs.declared.plan.Plan as plans
-use Rattle.vs_plan.specs.declared.plan.Reply as outcomes
-use Rattle.vs_plan.specs.declared.plan.Reply.TheVariants as replies
-use Rattle.vs_plan.specs.declared.plan.Store.{Store}
-use Rattle.nrvs_plan_c.specs.declared.kept.Plan.{Plan}
-use Rattle.nrvs_plan_c.specs.declared.told.Reply.{Reply}
+use Rattle.vs_plan.specs.declared.plans.plan.Plan as plans
+use Rattle.vs_plan.specs.declared.plans.plan.Reply as outcomes
+use Rattle.vs_plan.specs.declared.plans.plan.Reply.TheVariants as replies
+use Rattle.vs_plan.specs.declared.plans.plan.Store.{Store}
+use Rattle.nrvs_plan_c.specs.declared.records.kept.Plan.{Plan}
+use Rattle.nrvs_plan_c.specs.declared.records.told.Reply.{Reply}
 
 -- a reply with a number alone
 abbrev numbered : ℕ → ℕ → Reply

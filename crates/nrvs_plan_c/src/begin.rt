@@ -1,17 +1,17 @@
 //! How a plan begins.
 ghost use Rattle.std.specs.Prelude.{◌≡◌, ◌≢◌, ◌<◌, ◌≤◌, ℕ, MatchResult};
 ghost use Rattle.vs_types.specs.Depth.{levels};
-ghost use Rattle.vs_plan.specs.declared.request.Request.{Request};
+ghost use Rattle.vs_plan.specs.declared.plans.request.Request.{Request};
 ghost use Rattle.vs_plan.specs.Request.{IsRequest, request_fault};
 ghost use Rattle.vs_plan.specs.Target.{highest_link};
-ghost use Rattle.nrvs_plan_c.specs.declared.codes.TheConstants.{BRIEF, DESCENT};
+ghost use Rattle.nrvs_plan_c.specs.declared.records.codes.TheConstants.{BRIEF, DESCENT};
 ghost use Rattle.nrvs_plan_c.specs.Kept.{depth_in, request_in, target_at, target_in, target_of};
 ghost use Rattle.nrvs_plan_c.specs.Next.{HasBegun, IsAtRoot};
 ghost use Rattle.nrvs_plan_c.specs.Status.{begun_status, target_status};
 
-use crate::codes::{BRIEF, DESCENT, depth_in};
-use crate::kept::{Call, Plan, Target, Way};
-use crate::status::{BAD_LEVELS, PHYS_BITS, SEE, status_of};
+use crate::records::codes::{BRIEF, DESCENT, depth_in};
+use crate::records::kept::{Call, Plan, Target, Way};
+use crate::records::status::{BAD_LEVELS, PHYS_BITS, SEE, status_of};
 use vs_types::all_allowed;
 
 /// A level above that of each root.

@@ -4,9 +4,9 @@ ghost use Rattle.vs_types.specs.Codes.{rights_code};
 ghost use Rattle.vs_types.specs.Entry.{rights_of};
 ghost use Rattle.vs_types.specs.Page.{intersection};
 ghost use Rattle.vs_walk.specs.Memory.{Memory};
-ghost use Rattle.vs_plan.specs.declared.request.Request.{Request};
-ghost use Rattle.vs_plan.specs.declared.target.Target as targets;
-ghost use Rattle.vs_types.specs.declared.page.Size.TheVariants.{K4};
+ghost use Rattle.vs_plan.specs.declared.plans.request.Request.{Request};
+ghost use Rattle.vs_plan.specs.declared.plans.target.Target as targets;
+ghost use Rattle.vs_types.specs.declared.addresses.page.Size.TheVariants.{K4};
 ghost use Rattle.vs_types.specs.Bits.{AreBits, bits_in, rights_at};
 ghost use Rattle.vs_plan.specs.Request.{IsRequest};
 ghost use Rattle.nrvs_plan_c.specs.Kept.{page_in, rights_in};
@@ -14,10 +14,10 @@ ghost use Rattle.nrvs_plan_c.specs.Next.{IsPlanned};
 ghost use Rattle.nrvs_plan_c.specs.inside.End.{IsEndOf, IsMade, IsRightFor, Stays, changed_reply};
 ghost use Rattle.nrvs_plan_c.specs.inside.Written.{HasNone, HasStore};
 
-use crate::codes::rights_in;
-use crate::kept::Plan;
-use crate::told::Reply;
-use crate::written::{write_none, write_store};
+use crate::records::codes::rights_in;
+use crate::records::kept::Plan;
+use crate::records::told::Reply;
+use crate::records::written::{write_none, write_store};
 use vs_plan::ends_beyond;
 use vs_types::{
     Page, Size, bits_in, is_present, narrowed, page_address, page_word, rights_at, with_address,

@@ -2,25 +2,25 @@
 ghost use Rattle.std.specs.Prelude.{◌≡◌, ◌≢◌, ◌↔◌, ◌<◌, ◌-◌, ◌⊎◌, ◌≤◌, [], ◌∷◌, ◌++◌, ℕ, Some, None, IfSome, IsFalse, IsTrue, nat_lt, slice_index, if◌then◌else◌};
 ghost use Rattle.std.specs.FinMap as finite;
 ghost use Rattle.vs_walk.specs.Memory.{Memory};
-ghost use Rattle.vs_plan.specs.declared.request.Request.{Request};
-ghost use Rattle.vs_plan.specs.declared.plan.TheConstants.{MOST_UNLINKED};
+ghost use Rattle.vs_plan.specs.declared.plans.request.Request.{Request};
+ghost use Rattle.vs_plan.specs.declared.plans.plan.TheConstants.{MOST_UNLINKED};
 ghost use Rattle.vs_types.specs.Bits.{HasFlagsSet};
 ghost use Rattle.vs_plan.specs.Planner.{IsSpareFor, frames_given};
 ghost use Rattle.vs_plan.specs.Request.{request_fault};
 ghost use Rattle.vs_plan.specs.Shown.{IsShown};
-ghost use Rattle.nrvs_plan_c.specs.declared.codes.TheConstants.{DESCENT, ENDED, SEARCH};
+ghost use Rattle.nrvs_plan_c.specs.declared.records.codes.TheConstants.{DESCENT, ENDED, SEARCH};
 ghost use Rattle.nrvs_plan_c.specs.Kept.{IsSound, page_in, phase_in, planner_in, request_in, rights_in, shows_left, takes_frame, target_in, target_of};
 ghost use Rattle.nrvs_plan_c.specs.Next.{HasBegun, IsNextOf, status_in};
 ghost use Rattle.nrvs_plan_c.specs.Told.{plan_again, store_at};
 ghost use Rattle.nrvs_plan_c.specs.Status.{begun_status, target_status};
 
 use crate::begin::{begin, call_of};
-use crate::codes::{DESCENT, ENDED, SEARCH, takes_frame};
-use crate::kept::{Call, Plan, Target, Words, open};
 use crate::next::go_on;
+use crate::records::codes::{DESCENT, ENDED, SEARCH, takes_frame};
+use crate::records::kept::{Call, Plan, Target, Words, open};
+use crate::records::status::{BAD_RIGHTS, BAD_SIZE, NOT_ASKED, PLANNED};
+use crate::records::told::{bits_again, is_linking};
 use crate::see::{go_on_down, search_these};
-use crate::status::{BAD_RIGHTS, BAD_SIZE, NOT_ASKED, PLANNED};
-use crate::told::{bits_again, is_linking};
 use vs_plan::{PlainWords, Planner};
 
 /// Begins the plan of a map.

@@ -4,27 +4,16 @@
 //! A call allocates nothing, and keeps no pointer once it has returned.
 #![tactic(auto)]
 
-mod at_once;
 mod begin;
-mod codes;
-mod direct;
-mod down;
 mod end;
 mod exports;
-mod in_steps;
-mod kept;
 pub mod laws;
 mod next;
-mod parts;
-mod range;
-mod range_in;
-mod run_told;
+mod records;
 mod see;
-mod status;
-mod told;
 mod walk;
-mod written;
+mod ways;
 
-pub use kept::{Call, Met, Plan, Target, Way, Words};
-pub use range::Run;
-pub use told::Reply;
+pub use records::kept::{Call, Met, Plan, Target, Way, Words};
+pub use records::range::Run;
+pub use records::told::Reply;

@@ -2,17 +2,17 @@
 ghost use Rattle.std.specs.Prelude.{◌≡◌, ◌≢◌, ◌≤◌, ◌-◌, ℕ, List, Option};
 ghost use Rattle.vs_types.specs.Depth.{levels};
 ghost use Rattle.vs_walk.specs.Memory.{Memory};
-ghost use Rattle.vs_plan.specs.declared.plan.TheConstants.{MOST_UNLINKED};
+ghost use Rattle.vs_plan.specs.declared.plans.plan.TheConstants.{MOST_UNLINKED};
 ghost use Rattle.vs_plan.specs.Planner.{Awaits, HasGiven, frames_given, gives_left, sees_left};
 ghost use Rattle.vs_plan.specs.Shown.{IsNext};
-ghost use Rattle.nrvs_plan_c.specs.declared.codes.TheConstants.{ENDED};
+ghost use Rattle.nrvs_plan_c.specs.declared.records.codes.TheConstants.{ENDED};
 ghost use Rattle.nrvs_plan_c.specs.Kept.{IsSound, phase_in, planner_in, request_in, target_in};
 ghost use Rattle.nrvs_plan_c.specs.Next.{IsNextOf, status_in};
 
-use crate::codes::ENDED;
-use crate::kept::{Plan, keep};
-use crate::status::{GIVE, PLANNED, SEE};
-use crate::told::write;
+use crate::records::codes::ENDED;
+use crate::records::kept::{Plan, keep};
+use crate::records::status::{GIVE, PLANNED, SEE};
+use crate::records::told::write;
 use vs_plan::{Planner, Step};
 
 /// Keeps the planner, or writes its plan.

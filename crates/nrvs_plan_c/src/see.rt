@@ -1,24 +1,24 @@
 //! What comes of the words of a frame that are shown: mostly the plan is changed where it is kept.
 ghost use Rattle.std.specs.Prelude.{◌≡◌, ◌≢◌, ◌%◌, ◌<◌, ◌≤◌, [], ℕ, Some, IsTrue, slice_index};
 ghost use Rattle.vs_types.specs.Depth.{index_at};
-ghost use Rattle.vs_types.specs.declared.frame.TheConstants.{FRAME_WORDS};
+ghost use Rattle.vs_types.specs.declared.addresses.frame.TheConstants.{FRAME_WORDS};
 ghost use Rattle.vs_walk.specs.Memory.{Memory};
 ghost use Rattle.vs_space.specs.Held.{word_at};
 ghost use Rattle.vs_plan.specs.Shown.{IsShown};
 ghost use Rattle.vs_plan.specs.Target.{highest_link};
-ghost use Rattle.nrvs_plan_c.specs.declared.codes.TheConstants.{BRIEF, DESCENT, SEARCH};
+ghost use Rattle.nrvs_plan_c.specs.declared.records.codes.TheConstants.{BRIEF, DESCENT, SEARCH};
 ghost use Rattle.nrvs_plan_c.specs.Kept.{IsSound, planner_in, request_in, target_in};
 ghost use Rattle.nrvs_plan_c.specs.Next.{IsPlanned};
 ghost use Rattle.nrvs_plan_c.specs.inside.End.{IsMade};
 ghost use Rattle.nrvs_plan_c.specs.inside.Seen.{IsSeen};
 
 use crate::begin::start;
-use crate::codes::{BRIEF, DESCENT};
-use crate::down::go_down;
 use crate::end::{End, end_ask, end_map, end_protect, end_remap, end_unmap};
-use crate::kept::{Plan, open};
 use crate::next::go_on;
-use crate::status::{PLANNED, SEE};
+use crate::records::codes::{BRIEF, DESCENT};
+use crate::records::kept::{Plan, open};
+use crate::records::status::{PLANNED, SEE};
+use crate::ways::down::go_down;
 use vs_plan::{FrameWords, Planner, has_other};
 use vs_types::index_at;
 

@@ -6,9 +6,9 @@ ghost use Rattle.nrvs_plan_c.specs.Direct.{HasFramesWithin, IsElsewhere};
 ghost use Rattle.nrvs_plan_c.specs.Kept.{target_of};
 ghost use Rattle.nrvs_plan_c.specs.inside.End.{IsAskable, IsEndOf};
 
-use crate::codes::depth_in;
 use crate::end::End;
-use crate::kept::{Target, Words};
+use crate::records::codes::depth_in;
+use crate::records::kept::{Target, Words};
 use vs_types::{all_allowed, index_at, is_link, linked_frame, narrowed};
 
 /// The end of the way of an address, where target and address may be asked for, and it leads to a table of level 1 by frames that all

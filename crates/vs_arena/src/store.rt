@@ -1,7 +1,7 @@
 //! What a store of page-table frames does: `FrameStore`.
 ghost use Rattle.std.specs.Prelude.{◌≡◌, ℕ, ◌+◌, ◌^◌, ◌<◌, ◌≤◌, IfSome, IfNone, slice_index, slice_set};
 ghost use Rattle.std.specs.FinMap as finite;
-ghost use Rattle.vs_types.specs.declared.frame.TheConstants.{FRAME_WORDS};
+ghost use Rattle.vs_types.specs.declared.addresses.frame.TheConstants.{FRAME_WORDS};
 ghost use Rattle.vs_arena.specs.Store.{Store, Notes, StorePlace, IsInUse, IsFree, words_of, note_of, zeros, IsStore};
 
 use crate::frame::Frame;

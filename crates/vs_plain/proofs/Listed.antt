@@ -17,7 +17,7 @@ use Rattle.std.proofs.lemmas.Bool.Decides.{nat_tests}
 use Rattle.std.specs.List.{AllByRecursion}
 use Rattle.std.specs.List.Sorted.{IsStrictlySortedBy, IsStrictlyIncreasing}
 use Rattle.vs_types.specs.Space.{no_pages, pages, Holds}
-use Rattle.vs_types.specs.declared.page.Page.{Page}
+use Rattle.vs_types.specs.declared.addresses.page.Page.{Page}
 use Rattle.vs_plain.specs.declared.mapping.Mapping.{Mapping}
 use Rattle.vs_plain.specs.inside.Listed.{page_from, page_of, listed_space}
 use Rattle.vs_plain.specs.inside.PageMap.{IsLastUpTo, IsFirstFrom}

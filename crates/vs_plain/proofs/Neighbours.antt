@@ -1,20 +1,20 @@
 -- What the pages next to an address say: what covers it, and what a page there overlaps.
 use Rattle.std.proofs.Common.{◌≡◌, ℕ, ◌+◌, ◌*◌, ◌%◌, ◌<◌, ◌≤◌, Option, true, false, Some, None, IsTrue, ⊎_elim, refl, sym, ap, ◌∙◌, subst, arith}
 use Rattle.std.proofs.lemmas.Bool.{cases_lt}
-use Rattle.vs_types.specs.declared.depth.Depth.{Depth}
-use Rattle.vs_types.specs.declared.page.Page.{Page}
-use Rattle.vs_types.specs.declared.page.Rights.{Rights}
-use Rattle.vs_types.specs.declared.page.Size.TheVariants.{K4}
-use Rattle.vs_types.specs.declared.op.Action.{Action}
-use Rattle.vs_types.specs.declared.op.Action.TheVariants.{Unmap, Protect}
-use Rattle.vs_types.specs.declared.answer.Answer.{Answer}
+use Rattle.vs_types.specs.declared.addresses.depth.Depth.{Depth}
+use Rattle.vs_types.specs.declared.addresses.page.Page.{Page}
+use Rattle.vs_types.specs.declared.addresses.page.Rights.{Rights}
+use Rattle.vs_types.specs.declared.addresses.page.Size.TheVariants.{K4}
+use Rattle.vs_types.specs.declared.requests.op.Action.{Action}
+use Rattle.vs_types.specs.declared.requests.op.Action.TheVariants.{Unmap, Protect}
+use Rattle.vs_types.specs.declared.requests.answer.Answer.{Answer}
 use Rattle.vs_types.specs.Page.{level_of, bytes_of, end_of, covers, overlaps, IsPage}
 use Rattle.vs_types.specs.Step.{Stepped, step}
 use Rattle.vs_types.specs.Space.{Space, Holds, IsSpace, page_at, least_overlapped}
 use Rattle.vs_types.proofs.Overlaps.{overlapped_first, none_overlapped}
 use Rattle.vs_types.proofs.Pages.{level_some, ends_before as ends_before_next, bytes_positive, covers_means, covers_base, overlaps_means, overlaps_shares}
 use Rattle.vs_types.proofs.Steps.{unmap_cases, protect_cases}
-use Rattle.vs_types.specs.declared.answer.Answer.TheVariants.{Removed, Changed}
+use Rattle.vs_types.specs.declared.requests.answer.Answer.TheVariants.{Removed, Changed}
 use Rattle.vs_types.proofs.Spaces.{page_at_means, remove_space, remove_cases, put_back}
 use Rattle.std.specs.FinMap as finite
 use Rattle.vs_plain.proofs.Tables.{aligned_down}

@@ -6,8 +6,8 @@ use Rattle.std.specs.FinMap as finite
 use Rattle.std.specs.Cmp.{both_ways}
 use Rattle.std.specs.Set.{is_member}
 use Rattle.std.proofs.lemmas.Bool.{cases_lt, eq-eqb, eqb-true, or_left, or_right, or_cases}
-use Rattle.vs_types.specs.declared.depth.Depth.{Depth}
-use Rattle.vs_types.specs.declared.page.Page.{Page}
+use Rattle.vs_types.specs.declared.addresses.depth.Depth.{Depth}
+use Rattle.vs_types.specs.declared.addresses.page.Page.{Page}
 use Rattle.vs_types.specs.Depth.{table_bytes}
 use Rattle.vs_types.specs.Page.{level_of, bytes_of, covers, overlaps, IsPage}
 use Rattle.vs_types.specs.Space.{Space, pages, Holds, IsSpace, least_overlapped, tables_of_level, tables_of_levels}

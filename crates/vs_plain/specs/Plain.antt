@@ -2,9 +2,9 @@
 use Rattle.std.specs.Prelude.{◌≡◌, ℕ}
 use Rattle.vs_types.specs.Space.{Space}
 use Rattle.vs_types.specs.Step.{step}
-use Rattle.vs_types.specs.declared.depth.Depth.{Depth}
-use Rattle.vs_types.specs.declared.op.Action.{Action}
-use Rattle.vs_types.specs.declared.answer.Answer.{Answer}
+use Rattle.vs_types.specs.declared.addresses.depth.Depth.{Depth}
+use Rattle.vs_types.specs.declared.requests.op.Action.{Action}
+use Rattle.vs_types.specs.declared.requests.answer.Answer.{Answer}
 
 -- a space, its depth, and the most tables that it may have
 pub record BoundedSpace : Type 0 where

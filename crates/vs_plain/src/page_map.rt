@@ -28,7 +28,7 @@ impl Model for PageMap {
     ghost use Rattle.std.specs.Coded.{coded_ℕ};
     ghost use Rattle.std.specs.FinMap as finite;
     ghost use Rattle.std.specs.Ordering.{nat_cmp};
-    ghost use Rattle.vs_types.specs.contracts.page.Page as page_contract;
+    ghost use Rattle.vs_types.specs.contracts.addresses.page.Page as page_contract;
     ghost use Rattle.vs_types.specs.Space.{Space};
     ghost use Rattle.std.specs.Map.{keys_of};
     ghost use Rattle.std.specs.List.Sorted.{IsStrictlySortedBy};

@@ -18,8 +18,8 @@ pub struct Pages<'a> {
 impl<'a> Model for Pages<'a> {
     ghost use Rattle.std.specs.Prelude.{List, map};
     ghost use Rattle.std.specs.Coded.{coded_list};
-    ghost use Rattle.vs_types.specs.contracts.page.Page as page_contract;
-    ghost use Rattle.vs_types.specs.declared.page.Page.{Page};
+    ghost use Rattle.vs_types.specs.contracts.addresses.page.Page as page_contract;
+    ghost use Rattle.vs_types.specs.declared.addresses.page.Page.{Page};
     ghost use Rattle.vs_plain.specs.inside.Listed.{page_of};
 
     ghost Value = { List Page };

@@ -31,7 +31,7 @@ impl Model for PlainSpace {
     ghost use Rattle.std.specs.Coded.{codes, coded_ℕ};
     ghost use Rattle.std.specs.FinMap as finite;
     ghost use Rattle.std.specs.Ordering.{nat_cmp};
-    ghost use Rattle.vs_types.specs.contracts.page.Page as page_contract;
+    ghost use Rattle.vs_types.specs.contracts.addresses.page.Page as page_contract;
     ghost use Rattle.vs_plain.specs.Plain.{BoundedSpace};
     ghost use Rattle.vs_plain.specs.inside.Invariant.{IsCounted};
 

@@ -4,10 +4,10 @@ use Rattle.std.specs.FinMap as finite
 use Rattle.vs_types.specs.Page.{bytes_of, level_of, covers}
 use Rattle.vs_types.specs.Space.{Space, IsSpace, Holds, page_at}
 use Rattle.vs_types.specs.Step.{step, look, look_in_page}
-use Rattle.vs_types.specs.declared.depth.Depth.{Depth}
-use Rattle.vs_types.specs.declared.op.Action.TheVariants.{Unmap, Protect}
-use Rattle.vs_types.specs.declared.page.Page.{Page}
-use Rattle.vs_types.specs.declared.page.Rights.{Rights}
+use Rattle.vs_types.specs.declared.addresses.depth.Depth.{Depth}
+use Rattle.vs_types.specs.declared.requests.op.Action.TheVariants.{Unmap, Protect}
+use Rattle.vs_types.specs.declared.addresses.page.Page.{Page}
+use Rattle.vs_types.specs.declared.addresses.page.Rights.{Rights}
 use Rattle.vs_types.proofs.Pages.{covers_means}
 use Rattle.vs_types.proofs.Spaces.{page_at_means, page_at_after_insert, page_at_after_remove, look_same, look_of_none}
 use Rattle.vs_types.proofs.Steps.{unmap_cases, protect_cases, protect_space}

@@ -6,12 +6,12 @@ use Rattle.vs_types.specs.Entry.{meaning, size_at}
 use Rattle.vs_types.specs.Page.{bytes_of, intersection}
 use Rattle.vs_types.specs.Space.{Space, page_at}
 use Rattle.vs_types.specs.Step.{Stepped, look}
-use Rattle.vs_types.specs.declared.depth.Depth.{Depth}
-use Rattle.vs_types.specs.declared.page.Page.{Page}
-use Rattle.vs_types.specs.declared.page.Rights.{Rights}
-use Rattle.vs_types.specs.declared.entry.Meaning.{Meaning}
-use Rattle.vs_types.specs.declared.entry.Meaning.TheVariants as entry
-use Rattle.vs_types.specs.declared.answer.Answer.TheVariants as answers
+use Rattle.vs_types.specs.declared.addresses.depth.Depth.{Depth}
+use Rattle.vs_types.specs.declared.addresses.page.Page.{Page}
+use Rattle.vs_types.specs.declared.addresses.page.Rights.{Rights}
+use Rattle.vs_types.specs.declared.entries.entry.Meaning.{Meaning}
+use Rattle.vs_types.specs.declared.entries.entry.Meaning.TheVariants as entry
+use Rattle.vs_types.specs.declared.requests.answer.Answer.TheVariants as answers
 use Rattle.vs_types.proofs.Spaces.{look_of_none}
 use Rattle.vs_walk.specs.Memory.{Memory}
 use Rattle.vs_walk.specs.Walk.{TranslatesAs}
@@ -20,12 +20,12 @@ use Rattle.vs_space.specs.Path.{table_in}
 use Rattle.vs_space.proofs.Meets.{never_table}
 use Rattle.vs_space.proofs.Protects.{unmap_none, protect_none, unmap_inside, protect_inside}
 use Rattle.vs_space.proofs.Regions.{IsLeafPage}
-use Rattle.vs_plan.specs.declared.plan.Plan.{Plan}
-use Rattle.vs_plan.specs.declared.plan.Reply.TheVariants as replies
-use Rattle.vs_plan.specs.declared.planner.Planner.{Planner}
-use Rattle.vs_plan.specs.declared.request.Request.{Request}
-use Rattle.vs_plan.specs.declared.request.Request.TheVariants.{Map, Unmap, Protect, Ask, Remap, Split, Join, Prune, UnmapPart, Collapse}
-use Rattle.vs_plan.specs.declared.target.Target.{Target}
+use Rattle.vs_plan.specs.declared.plans.plan.Plan.{Plan}
+use Rattle.vs_plan.specs.declared.plans.plan.Reply.TheVariants as replies
+use Rattle.vs_plan.specs.declared.plans.planner.Planner.{Planner}
+use Rattle.vs_plan.specs.declared.plans.request.Request.{Request}
+use Rattle.vs_plan.specs.declared.plans.request.Request.TheVariants.{Map, Unmap, Protect, Ask, Remap, Split, Join, Prune, UnmapPart, Collapse}
+use Rattle.vs_plan.specs.declared.plans.target.Target.{Target}
 use Rattle.vs_types.specs.Bits.{bits_in}
 use Rattle.vs_plan.specs.Premise.{IsPremise}
 use Rattle.vs_plan.specs.Request.{address_of, lowest_of, stepped, refusal}

@@ -4,18 +4,18 @@ use Rattle.std.proofs.lemmas.List.Elements.{All-contains}
 use Rattle.vs_types.specs.Depth.{levels}
 use Rattle.vs_types.specs.Entry.{meaning}
 use Rattle.vs_types.specs.Space.{Space}
-use Rattle.vs_types.specs.declared.depth.Depth.{Depth}
-use Rattle.vs_types.specs.declared.entry.Meaning.TheVariants as entry
+use Rattle.vs_types.specs.declared.addresses.depth.Depth.{Depth}
+use Rattle.vs_types.specs.declared.entries.entry.Meaning.TheVariants as entry
 use Rattle.vs_walk.specs.Memory.{Memory}
 use Rattle.vs_space.specs.Path.{found_at, table_in, table_at}
 use Rattle.vs_space.proofs.Paths.{table_first, table_below}
 use Rattle.vs_space.proofs.Writes.{found_alike}
-use Rattle.vs_plan.specs.declared.plan.Fill.{Fill}
-use Rattle.vs_plan.specs.declared.plan.Plan.{Plan}
-use Rattle.vs_plan.specs.declared.plan.Store.{Store}
-use Rattle.vs_plan.specs.declared.request.Request.{Request}
-use Rattle.vs_plan.specs.declared.request.Request.TheVariants.{Join, Collapse}
-use Rattle.vs_plan.specs.declared.target.Target.{Target}
+use Rattle.vs_plan.specs.declared.plans.plan.Fill.{Fill}
+use Rattle.vs_plan.specs.declared.plans.plan.Plan.{Plan}
+use Rattle.vs_plan.specs.declared.plans.plan.Store.{Store}
+use Rattle.vs_plan.specs.declared.plans.request.Request.{Request}
+use Rattle.vs_plan.specs.declared.plans.request.Request.TheVariants.{Join, Collapse}
+use Rattle.vs_plan.specs.declared.plans.target.Target.{Target}
 use Rattle.vs_plan.specs.Other.{HasSameTables, IsShared, MeetsNone, IsBeside, IsRightBeside}
 use Rattle.vs_plan.specs.Premise.{IsPremise}
 use Rattle.vs_plan.specs.Request.{address_of}

@@ -4,9 +4,9 @@ use Rattle.std.specs.Prelude.{Bool, if◌then◌else◌, true, false, ◌==◌}
 use Rattle.std.proofs.lemmas.Bool.{eq-eqb, ne_eqb, cases_eq}
 use Rattle.vs_types.specs.Space.{Space, page_at}
 use Rattle.vs_types.specs.Step.{Stepped}
-use Rattle.vs_types.specs.declared.page.Page.{Page}
-use Rattle.vs_types.specs.declared.answer.Answer.TheVariants as answers
-use Rattle.vs_plan.specs.declared.plan.Reply.{Reply}
+use Rattle.vs_types.specs.declared.addresses.page.Page.{Page}
+use Rattle.vs_types.specs.declared.requests.answer.Answer.TheVariants as answers
+use Rattle.vs_plan.specs.declared.plans.plan.Reply.{Reply}
 use Rattle.vs_plan.specs.Changes.{change_page, why_not}
 
 module _ (space : Space) (base : ℕ) (after : Page → Space) where

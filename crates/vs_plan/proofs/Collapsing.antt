@@ -11,14 +11,14 @@ use Rattle.vs_types.specs.Laws.{changes}
 use Rattle.vs_types.specs.Page.{level_of, bytes_of, intersection, IsPage}
 use Rattle.vs_types.specs.Space.{Space}
 use Rattle.vs_types.specs.Step.{Stepped}
-use Rattle.vs_types.specs.declared.depth.Depth.{Depth}
-use Rattle.vs_types.specs.declared.depth.Depth.TheVariants.{Four, Five}
-use Rattle.vs_types.specs.declared.page.Page.{Page}
-use Rattle.vs_types.specs.declared.page.Rights.{Rights}
-use Rattle.vs_types.specs.declared.page.Size.{Size}
-use Rattle.vs_types.specs.declared.page.Size.TheVariants.{K4, M2, G1}
-use Rattle.vs_types.specs.declared.entry.Meaning.TheVariants as entry
-use Rattle.vs_types.specs.declared.answer.Answer.TheVariants as answers
+use Rattle.vs_types.specs.declared.addresses.depth.Depth.{Depth}
+use Rattle.vs_types.specs.declared.addresses.depth.Depth.TheVariants.{Four, Five}
+use Rattle.vs_types.specs.declared.addresses.page.Page.{Page}
+use Rattle.vs_types.specs.declared.addresses.page.Rights.{Rights}
+use Rattle.vs_types.specs.declared.addresses.page.Size.{Size}
+use Rattle.vs_types.specs.declared.addresses.page.Size.TheVariants.{K4, M2, G1}
+use Rattle.vs_types.specs.declared.entries.entry.Meaning.TheVariants as entry
+use Rattle.vs_types.specs.declared.requests.answer.Answer.TheVariants as answers
 use Rattle.vs_types.proofs.Lists.{Contains-head}
 use Rattle.vs_types.proofs.Pages.{same_page}
 use Rattle.vs_walk.specs.Memory.{Memory}
@@ -30,14 +30,14 @@ use Rattle.vs_space.proofs.LeafSteps.{begins_at}
 use Rattle.vs_space.proofs.Prunes.{word_in}
 use Rattle.vs_space.proofs.Regions.{IsLeafPage, level_back, path_covers, translates_changed}
 use Rattle.vs_space.proofs.Writes.{get_written_other}
-use Rattle.vs_plan.specs.declared.plan.Flush.TheVariants as flushes
-use Rattle.vs_plan.specs.declared.plan.Plan.{Plan}
-use Rattle.vs_plan.specs.declared.plan.Reply.{Reply}
-use Rattle.vs_plan.specs.declared.plan.Reply.TheVariants as replies
-use Rattle.vs_plan.specs.declared.plan.Store.{Store}
-use Rattle.vs_plan.specs.declared.planner.Planner.{Planner}
-use Rattle.vs_plan.specs.declared.request.Request.TheVariants.{Collapse}
-use Rattle.vs_plan.specs.declared.target.Target.{Target}
+use Rattle.vs_plan.specs.declared.plans.plan.Flush.TheVariants as flushes
+use Rattle.vs_plan.specs.declared.plans.plan.Plan.{Plan}
+use Rattle.vs_plan.specs.declared.plans.plan.Reply.{Reply}
+use Rattle.vs_plan.specs.declared.plans.plan.Reply.TheVariants as replies
+use Rattle.vs_plan.specs.declared.plans.plan.Store.{Store}
+use Rattle.vs_plan.specs.declared.plans.planner.Planner.{Planner}
+use Rattle.vs_plan.specs.declared.plans.request.Request.TheVariants.{Collapse}
+use Rattle.vs_plan.specs.declared.plans.target.Target.{Target}
 use Rattle.vs_types.specs.Bits.{bits_in, page_word, flagged}
 use Rattle.vs_plan.specs.Changes.{larger, collapse, collapse_refusal, not_over}
 use Rattle.vs_plan.specs.Premise.{IsPremise}

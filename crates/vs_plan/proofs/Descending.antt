@@ -7,15 +7,15 @@ use Rattle.std.specs.FinMap as finite
 use Rattle.vs_types.specs.Depth.{index_at}
 use Rattle.vs_types.specs.Entry.{meaning}
 use Rattle.vs_types.specs.Page.{intersection}
-use Rattle.vs_types.specs.declared.page.Rights.{Rights}
-use Rattle.vs_types.specs.declared.entry.Meaning.TheVariants as entry
+use Rattle.vs_types.specs.declared.addresses.page.Rights.{Rights}
+use Rattle.vs_types.specs.declared.entries.entry.Meaning.TheVariants as entry
 use Rattle.vs_walk.specs.Memory.{Memory}
 use Rattle.vs_space.specs.Held.{word_at}
 use Rattle.vs_space.specs.Path.{table_in}
 use Rattle.vs_space.proofs.Prunes.{word_in}
-use Rattle.vs_plan.specs.declared.planner.Phase.TheVariants as phases
-use Rattle.vs_plan.specs.declared.planner.Planner.{Planner}
-use Rattle.vs_plan.specs.declared.request.Request.TheVariants.{Unmap}
+use Rattle.vs_plan.specs.declared.plans.planner.Phase.TheVariants as phases
+use Rattle.vs_plan.specs.declared.plans.planner.Planner.{Planner}
+use Rattle.vs_plan.specs.declared.plans.request.Request.TheVariants.{Unmap}
 use Rattle.vs_plan.specs.Request.{address_of, lowest_of}
 use Rattle.vs_plan.specs.Shown.{IsTableMet, HasOneWord, HasOtherWord, HasMet, IsDescended, IsShown, IsShownIn}
 use Rattle.vs_plan.specs.Answered.{LeadsBeyond}

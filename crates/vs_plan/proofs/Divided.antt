@@ -7,23 +7,23 @@ use Rattle.vs_types.specs.Depth.{index_at, IsCanonical}
 use Rattle.vs_types.specs.Entry.{meaning, size_at, all_rights, table_word}
 use Rattle.vs_types.specs.Page.{bytes_of, intersection}
 use Rattle.vs_types.specs.Space.{Space, page_at}
-use Rattle.vs_types.specs.declared.page.Rights.{Rights}
-use Rattle.vs_types.specs.declared.entry.Meaning.TheVariants as entry
-use Rattle.vs_types.specs.declared.answer.Answer.TheVariants as answers
+use Rattle.vs_types.specs.declared.addresses.page.Rights.{Rights}
+use Rattle.vs_types.specs.declared.entries.entry.Meaning.TheVariants as entry
+use Rattle.vs_types.specs.declared.requests.answer.Answer.TheVariants as answers
 use Rattle.vs_walk.specs.Memory.{Memory}
 use Rattle.vs_walk.proofs.Walks.{leaf_level}
 use Rattle.vs_walk.proofs.TranslatedBits.{leaf_lies}
 use Rattle.vs_space.specs.Held.{word_at}
-use Rattle.vs_plan.specs.declared.plan.Fill.{Fill}
-use Rattle.vs_plan.specs.declared.plan.Flush.TheVariants as flushes
-use Rattle.vs_plan.specs.declared.plan.Plan.{Plan}
-use Rattle.vs_plan.specs.declared.plan.Reply.TheVariants as replies
-use Rattle.vs_plan.specs.declared.plan.Store.{Store}
-use Rattle.vs_plan.specs.declared.planner.Planner.{Planner}
-use Rattle.vs_plan.specs.declared.planner.Phase.TheVariants as phases
-use Rattle.vs_plan.specs.declared.request.Request.{Request}
-use Rattle.vs_plan.specs.declared.request.Request.TheVariants.{Split, UnmapPart}
-use Rattle.vs_plan.specs.declared.target.Target.{Target}
+use Rattle.vs_plan.specs.declared.plans.plan.Fill.{Fill}
+use Rattle.vs_plan.specs.declared.plans.plan.Flush.TheVariants as flushes
+use Rattle.vs_plan.specs.declared.plans.plan.Plan.{Plan}
+use Rattle.vs_plan.specs.declared.plans.plan.Reply.TheVariants as replies
+use Rattle.vs_plan.specs.declared.plans.plan.Store.{Store}
+use Rattle.vs_plan.specs.declared.plans.planner.Planner.{Planner}
+use Rattle.vs_plan.specs.declared.plans.planner.Phase.TheVariants as phases
+use Rattle.vs_plan.specs.declared.plans.request.Request.{Request}
+use Rattle.vs_plan.specs.declared.plans.request.Request.TheVariants.{Split, UnmapPart}
+use Rattle.vs_plan.specs.declared.plans.target.Target.{Target}
 use Rattle.vs_types.specs.Bits.{bits_in}
 use Rattle.vs_plan.specs.Changes.{smaller, smallest, split_refusal}
 use Rattle.vs_plan.specs.Planner.{Divides}

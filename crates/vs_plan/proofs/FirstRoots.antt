@@ -7,9 +7,9 @@ use Rattle.vs_types.specs.Entry.{all_rights}
 use Rattle.vs_types.specs.Laws.{changes}
 use Rattle.vs_types.specs.Space.{Space, IsSpace, no_pages, table_count}
 use Rattle.vs_types.specs.Step.{Stepped}
-use Rattle.vs_types.specs.declared.depth.Depth.{Depth}
-use Rattle.vs_types.specs.declared.entry.Meaning.TheVariants as entry
-use Rattle.vs_types.specs.declared.op.Action.TheVariants as actions
+use Rattle.vs_types.specs.declared.addresses.depth.Depth.{Depth}
+use Rattle.vs_types.specs.declared.entries.entry.Meaning.TheVariants as entry
+use Rattle.vs_types.specs.declared.requests.op.Action.TheVariants as actions
 use Rattle.vs_types.proofs.Spaces.{no_pages_space, look_of_nothing, remove_space, page_at_means}
 use Rattle.vs_types.proofs.Steps.{step_space, unmap_cases, protect_cases, protect_space}
 use Rattle.vs_arena.specs.Store.{zeros}
@@ -18,13 +18,13 @@ use Rattle.vs_walk.specs.Walk.{as_walk, TranslatesAs}
 use Rattle.vs_space.specs.Path.{table_in, table_at}
 use Rattle.vs_space.proofs.Links.{found_in_zeros}
 use Rattle.vs_space.proofs.Paths.{table_first, reached_within, table_below, none_past}
-use Rattle.vs_plan.specs.declared.plan.Plan.{Plan}
-use Rattle.vs_plan.specs.declared.plan.Reply.{Reply}
-use Rattle.vs_plan.specs.declared.plan.Reply.TheVariants as replies
-use Rattle.vs_plan.specs.declared.request.Request.{Request}
-use Rattle.vs_plan.specs.declared.request.Request.TheVariants.{Map, Unmap, Protect, Ask, Remap, Split, Join, Prune, UnmapPart, Collapse}
-use Rattle.vs_plan.specs.declared.plan.Store.{Store}
-use Rattle.vs_plan.specs.declared.target.Target.{Target}
+use Rattle.vs_plan.specs.declared.plans.plan.Plan.{Plan}
+use Rattle.vs_plan.specs.declared.plans.plan.Reply.{Reply}
+use Rattle.vs_plan.specs.declared.plans.plan.Reply.TheVariants as replies
+use Rattle.vs_plan.specs.declared.plans.request.Request.{Request}
+use Rattle.vs_plan.specs.declared.plans.request.Request.TheVariants.{Map, Unmap, Protect, Ask, Remap, Split, Join, Prune, UnmapPart, Collapse}
+use Rattle.vs_plan.specs.declared.plans.plan.Store.{Store}
+use Rattle.vs_plan.specs.declared.plans.target.Target.{Target}
 use Rattle.vs_plan.specs.Premise.{IsPremise, HasOwnWay}
 use Rattle.vs_plan.specs.Request.{IsRequest, address_of, stepped, refusal}
 use Rattle.vs_plan.specs.Changes.{join, join_refusal}

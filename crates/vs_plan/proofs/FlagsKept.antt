@@ -6,10 +6,10 @@ use Rattle.std.proofs.lemmas.List.Elements.{length_all_zip}
 use Rattle.vs_types.specs.Depth.{levels}
 use Rattle.vs_types.specs.Page.{intersection}
 use Rattle.vs_types.specs.Space.{Space}
-use Rattle.vs_types.specs.declared.depth.Depth.{Depth}
-use Rattle.vs_types.specs.declared.page.Rights.{Rights}
-use Rattle.vs_types.specs.declared.entry.Meaning.{Meaning}
-use Rattle.vs_types.specs.declared.entry.Meaning.TheVariants as entry
+use Rattle.vs_types.specs.declared.addresses.depth.Depth.{Depth}
+use Rattle.vs_types.specs.declared.addresses.page.Rights.{Rights}
+use Rattle.vs_types.specs.declared.entries.entry.Meaning.{Meaning}
+use Rattle.vs_types.specs.declared.entries.entry.Meaning.TheVariants as entry
 use Rattle.vs_walk.specs.Memory.{Memory, AreWhole}
 use Rattle.vs_walk.specs.Walk.{walk_from}
 use Rattle.vs_walk.specs.declared.walk.Walk.{Walk}
@@ -19,8 +19,8 @@ use Rattle.vs_space.specs.Path.{found_at, table_at}
 use Rattle.vs_space.proofs.Flagged.{flagged_found}
 use Rattle.vs_space.proofs.Paths.{agree_table, walk_found}
 use Rattle.vs_space.proofs.Writes.{words_in}
-use Rattle.vs_plan.specs.declared.plan.Flush.{Flush}
-use Rattle.vs_plan.specs.declared.plan.Store.{Store}
+use Rattle.vs_plan.specs.declared.plans.plan.Flush.{Flush}
+use Rattle.vs_plan.specs.declared.plans.plan.Store.{Store}
 use Rattle.vs_plan.specs.Flushed.{Suffices}
 use Rattle.vs_plan.specs.Lived.{AreButFlags, AsTold, Next, Later, Flushed, SufficesButFlags}
 use Rattle.vs_plan.specs.Premise.{IsPremise, HasOwnWay}

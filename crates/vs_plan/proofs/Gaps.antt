@@ -11,11 +11,11 @@ use Rattle.vs_types.specs.Entry.{meaning, size_at, table_word, all_rights}
 use Rattle.vs_types.specs.Page.{level_of, bytes_of, covers, intersection}
 use Rattle.vs_types.specs.Space.{Space, IsSpace}
 use Rattle.vs_types.specs.Step.{Stepped, step}
-use Rattle.vs_types.specs.declared.op.Action.TheVariants.{Unmap}
-use Rattle.vs_types.specs.declared.page.Page.{Page}
-use Rattle.vs_types.specs.declared.page.Rights.{Rights}
-use Rattle.vs_types.specs.declared.entry.Meaning.TheVariants as entry
-use Rattle.vs_types.specs.declared.answer.Answer.TheVariants as answers
+use Rattle.vs_types.specs.declared.requests.op.Action.TheVariants.{Unmap}
+use Rattle.vs_types.specs.declared.addresses.page.Page.{Page}
+use Rattle.vs_types.specs.declared.addresses.page.Rights.{Rights}
+use Rattle.vs_types.specs.declared.entries.entry.Meaning.TheVariants as entry
+use Rattle.vs_types.specs.declared.requests.answer.Answer.TheVariants as answers
 use Rattle.vs_types.proofs.Lists.{Contains-head}
 use Rattle.vs_types.proofs.Maps.{get-insert_same, get-insert_other}
 use Rattle.vs_types.proofs.Pages.{covers_means, covered_canonical}
@@ -30,12 +30,12 @@ use Rattle.vs_space.proofs.Paths.{none_past, reached_within, same_table, table_b
 use Rattle.vs_space.proofs.Prunes.{found_entry, word_in}
 use Rattle.vs_space.proofs.Regions.{IsLeafPage, covers_path, level_back, page_path}
 use Rattle.vs_space.proofs.Writes.{get_written, get_written_other}
-use Rattle.vs_plan.specs.declared.plan.Fill.{Fill}
-use Rattle.vs_plan.specs.declared.plan.Flush.TheVariants as flushes
-use Rattle.vs_plan.specs.declared.plan.Reply.TheVariants as replies
-use Rattle.vs_plan.specs.declared.plan.Store.{Store}
-use Rattle.vs_plan.specs.declared.request.Request.TheVariants.{UnmapPart}
-use Rattle.vs_plan.specs.declared.target.Target.{Target}
+use Rattle.vs_plan.specs.declared.plans.plan.Fill.{Fill}
+use Rattle.vs_plan.specs.declared.plans.plan.Flush.TheVariants as flushes
+use Rattle.vs_plan.specs.declared.plans.plan.Reply.TheVariants as replies
+use Rattle.vs_plan.specs.declared.plans.plan.Store.{Store}
+use Rattle.vs_plan.specs.declared.plans.request.Request.TheVariants.{UnmapPart}
+use Rattle.vs_plan.specs.declared.plans.target.Target.{Target}
 use Rattle.vs_types.specs.Bits.{bits_in, page_word}
 use Rattle.vs_plan.specs.Changes.{part, smaller, split, unmap_each, unmap_part}
 use Rattle.vs_plan.specs.Other.{HasSameTables}

@@ -1,12 +1,12 @@
 -- What a planner that waits for a frame has found.
 use Rattle.std.proofs.Common.{◌≡◌, ℕ, None, refl, subst}
 use Rattle.vs_types.specs.Space.{Space}
-use Rattle.vs_types.specs.declared.page.Page.{Page}
+use Rattle.vs_types.specs.declared.addresses.page.Page.{Page}
 use Rattle.vs_walk.specs.Memory.{Memory}
-use Rattle.vs_plan.specs.declared.planner.Phase.{Phase}
-use Rattle.vs_plan.specs.declared.planner.Phase.TheVariants as phases
-use Rattle.vs_plan.specs.declared.planner.Planner.{Planner}
-use Rattle.vs_plan.specs.declared.request.Request.TheVariants.{Map}
+use Rattle.vs_plan.specs.declared.plans.planner.Phase.{Phase}
+use Rattle.vs_plan.specs.declared.plans.planner.Phase.TheVariants as phases
+use Rattle.vs_plan.specs.declared.plans.planner.Planner.{Planner}
+use Rattle.vs_plan.specs.declared.plans.request.Request.TheVariants.{Map}
 use Rattle.vs_plan.specs.Planner.{AwaitsFrame, AwaitsFrameIn, AwaitsGrowth, AwaitsDivision, Divides}
 use Rattle.vs_plan.specs.Premise.{IsPremise}
 use Rattle.vs_plan.specs.Request.{address_of, refusal}

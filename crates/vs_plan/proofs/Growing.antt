@@ -8,10 +8,10 @@ use Rattle.std.specs.FinMap as finite
 use Rattle.vs_types.specs.Depth.{levels, index_at}
 use Rattle.vs_types.specs.Entry.{meaning, all_rights, table_word}
 use Rattle.vs_types.specs.Page.{level_of, bytes_of, intersection}
-use Rattle.vs_types.specs.declared.depth.Depth.{Depth}
-use Rattle.vs_types.specs.declared.page.Page.{Page}
-use Rattle.vs_types.specs.declared.page.Rights.{Rights}
-use Rattle.vs_types.specs.declared.entry.Meaning.TheVariants as entry
+use Rattle.vs_types.specs.declared.addresses.depth.Depth.{Depth}
+use Rattle.vs_types.specs.declared.addresses.page.Page.{Page}
+use Rattle.vs_types.specs.declared.addresses.page.Rights.{Rights}
+use Rattle.vs_types.specs.declared.entries.entry.Meaning.TheVariants as entry
 use Rattle.vs_types.proofs.Lists.{Contains-head, Contains-cases, not_in_nil}
 use Rattle.vs_types.proofs.Pages.{level_some}
 use Rattle.vs_arena.specs.Store.{zeros}
@@ -24,8 +24,8 @@ use Rattle.vs_space.proofs.Prunes.{word_in}
 use Rattle.vs_space.proofs.Writes.{get_written, get_written_other}
 use Rattle.vs_space.proofs.Written.{size_same}
 use Rattle.vs_space.proofs.Reached.{whole_written}
-use Rattle.vs_plan.specs.declared.plan.Store.{Store}
-use Rattle.vs_plan.specs.declared.request.Request.TheVariants.{Map}
+use Rattle.vs_plan.specs.declared.plans.plan.Store.{Store}
+use Rattle.vs_plan.specs.declared.plans.request.Request.TheVariants.{Map}
 use Rattle.vs_types.specs.Bits.{page_word}
 use Rattle.vs_plan.specs.Premise.{IsSpare}
 use Rattle.vs_plan.specs.Right.{IsWritten, AreLinks}

@@ -6,11 +6,11 @@ use Rattle.vs_types.specs.Laws.{as_in, LooksChanged}
 use Rattle.vs_types.specs.Page.{bytes_of, covers}
 use Rattle.vs_types.specs.Space.{Space, IsSpace, page_at}
 use Rattle.vs_types.specs.Step.{look, Stepped}
-use Rattle.vs_types.specs.declared.answer.Answer.TheVariants as answers
-use Rattle.vs_types.specs.declared.depth.Depth.{Depth}
-use Rattle.vs_types.specs.declared.page.Page.{Page}
-use Rattle.vs_types.specs.declared.page.Size.{Size}
-use Rattle.vs_types.specs.declared.page.Size.TheVariants.{K4, M2, G1}
+use Rattle.vs_types.specs.declared.requests.answer.Answer.TheVariants as answers
+use Rattle.vs_types.specs.declared.addresses.depth.Depth.{Depth}
+use Rattle.vs_types.specs.declared.addresses.page.Page.{Page}
+use Rattle.vs_types.specs.declared.addresses.page.Size.{Size}
+use Rattle.vs_types.specs.declared.addresses.page.Size.TheVariants.{K4, M2, G1}
 use Rattle.vs_types.proofs.Pages.{bytes_positive, covers_means, same_page}
 use Rattle.vs_types.proofs.Spaces.{page_at_means, look_of_page}
 use Rattle.vs_plan.specs.Changes.{smaller, larger, part, HasParts, join, join_refusal, not_first, leads_to}

@@ -9,10 +9,10 @@ use Rattle.vs_types.specs.Laws.{as_in, LooksChanged}
 use Rattle.vs_types.specs.Page.{level_of, bytes_of, covers, IsPage, IsPageBelow}
 use Rattle.vs_types.specs.Space.{Space, Holds, IsSpace, page_at}
 use Rattle.vs_types.specs.Step.{look, Stepped}
-use Rattle.vs_types.specs.declared.depth.Depth.{Depth}
-use Rattle.vs_types.specs.declared.page.Page.{Page}
-use Rattle.vs_types.specs.declared.page.Rights.{Rights}
-use Rattle.vs_types.specs.declared.answer.Answer.TheVariants as answers
+use Rattle.vs_types.specs.declared.addresses.depth.Depth.{Depth}
+use Rattle.vs_types.specs.declared.addresses.page.Page.{Page}
+use Rattle.vs_types.specs.declared.addresses.page.Rights.{Rights}
+use Rattle.vs_types.specs.declared.requests.answer.Answer.TheVariants as answers
 use Rattle.vs_types.proofs.Pages.{same_page, covers_base, covers_means, covered_canonical}
 use Rattle.vs_types.proofs.Maps.{get-insert_same, get-insert_other}
 use Rattle.vs_types.proofs.Spaces.{page_at_means, page_at_same, look_of_page, look_same, insert_cases, insert_space}

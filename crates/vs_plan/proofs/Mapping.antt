@@ -10,11 +10,11 @@ use Rattle.vs_types.specs.Entry.{meaning, size_at, all_rights, table_word}
 use Rattle.vs_types.specs.Page.{level_of, bytes_of, intersection, IsPage}
 use Rattle.vs_types.specs.Space.{Space, table_count}
 use Rattle.vs_types.specs.Step.{step}
-use Rattle.vs_types.specs.declared.op.Action.TheVariants as actions
-use Rattle.vs_types.specs.declared.page.Page.{Page}
-use Rattle.vs_types.specs.declared.page.Rights.{Rights}
-use Rattle.vs_types.specs.declared.entry.Meaning.TheVariants as entry
-use Rattle.vs_types.specs.declared.answer.Answer.TheVariants as answers
+use Rattle.vs_types.specs.declared.requests.op.Action.TheVariants as actions
+use Rattle.vs_types.specs.declared.addresses.page.Page.{Page}
+use Rattle.vs_types.specs.declared.addresses.page.Rights.{Rights}
+use Rattle.vs_types.specs.declared.entries.entry.Meaning.TheVariants as entry
+use Rattle.vs_types.specs.declared.requests.answer.Answer.TheVariants as answers
 use Rattle.vs_types.proofs.Lists.{not_in_nil}
 use Rattle.vs_walk.specs.Memory.{Memory, AreWhole}
 use Rattle.vs_walk.specs.Walk.{walk, walk_from, TranslatesAs}
@@ -23,11 +23,11 @@ use Rattle.vs_space.specs.Held.{word_at}
 use Rattle.vs_space.specs.Path.{table_in, table_at, SamePath}
 use Rattle.vs_space.proofs.Writes.{get_written_other, same_or_not}
 use Rattle.vs_space.proofs.Written.{size_same}
-use Rattle.vs_plan.specs.declared.plan.Flush.TheVariants as flushes
-use Rattle.vs_plan.specs.declared.plan.Reply.TheVariants as replies
-use Rattle.vs_plan.specs.declared.plan.Store.{Store}
-use Rattle.vs_plan.specs.declared.request.Request.TheVariants.{Map}
-use Rattle.vs_plan.specs.declared.target.Target.{Target}
+use Rattle.vs_plan.specs.declared.plans.plan.Flush.TheVariants as flushes
+use Rattle.vs_plan.specs.declared.plans.plan.Reply.TheVariants as replies
+use Rattle.vs_plan.specs.declared.plans.plan.Store.{Store}
+use Rattle.vs_plan.specs.declared.plans.request.Request.TheVariants.{Map}
+use Rattle.vs_plan.specs.declared.plans.target.Target.{Target}
 use Rattle.vs_types.specs.Bits.{page_word}
 use Rattle.vs_plan.specs.Premise.{HasOwnWay, IsSpare}
 use Rattle.vs_plan.specs.Right.{IsMeant, OfPage, OfSpare, IsWritten, IsPut, Fits, IsAlready, IsFlushed, IsPruned, ReachesNoOther}

@@ -5,10 +5,10 @@ use Rattle.std.proofs.lemmas.Option.{same_Some}
 use Rattle.vs_types.specs.Depth.{levels, entry_bytes, index_at, IsCanonical}
 use Rattle.vs_types.specs.Entry.{size_at}
 use Rattle.vs_types.specs.Page.{bytes_of, level_of, intersection}
-use Rattle.vs_types.specs.declared.depth.Depth.{Depth}
-use Rattle.vs_types.specs.declared.page.Rights.{Rights}
-use Rattle.vs_types.specs.declared.page.Size.{Size}
-use Rattle.vs_types.specs.declared.entry.Meaning.TheVariants as entry
+use Rattle.vs_types.specs.declared.addresses.depth.Depth.{Depth}
+use Rattle.vs_types.specs.declared.addresses.page.Rights.{Rights}
+use Rattle.vs_types.specs.declared.addresses.page.Size.{Size}
+use Rattle.vs_types.specs.declared.entries.entry.Meaning.TheVariants as entry
 use Rattle.vs_walk.specs.Memory.{Memory}
 use Rattle.vs_walk.specs.Walk.{walk}
 use Rattle.vs_walk.specs.declared.walk.Walk.TheVariants.{Mapped}
@@ -18,7 +18,7 @@ use Rattle.vs_space.specs.Path.{found_at, table_at, SamePath}
 use Rattle.vs_space.proofs.Paths.{table_first, table_before, reached_within}
 use Rattle.vs_space.proofs.Regions.{same_stretch, stretch_same, block, level_back}
 use Rattle.vs_space.proofs.Writes.{same_or_not}
-use Rattle.vs_plan.specs.declared.plan.Store.{Store}
+use Rattle.vs_plan.specs.declared.plans.plan.Store.{Store}
 use Rattle.vs_plan.specs.Premise.{HasOwnWay}
 use Rattle.vs_plan.specs.Stores.{stored}
 use Rattle.vs_plan.specs.Way.{IsWay, Begins, Leads}

@@ -6,27 +6,27 @@ use Rattle.std.proofs.lemmas.List.Elements.{All-nil}
 use Rattle.std.proofs.Math.Seq.{take-length}
 use Rattle.vs_types.specs.Depth.{index_at, IsCanonical}
 use Rattle.vs_types.specs.Entry.{meaning}
-use Rattle.vs_types.specs.declared.entry.Meaning.TheVariants as entry
+use Rattle.vs_types.specs.declared.entries.entry.Meaning.TheVariants as entry
 use Rattle.vs_types.specs.Space.{Space}
-use Rattle.vs_types.specs.declared.page.Rights.{Rights}
+use Rattle.vs_types.specs.declared.addresses.page.Rights.{Rights}
 use Rattle.vs_space.specs.Held.{word_at}
 use Rattle.vs_space.specs.Path.{found_at}
-use Rattle.vs_types.specs.declared.depth.Depth.{Depth}
+use Rattle.vs_types.specs.declared.addresses.depth.Depth.{Depth}
 use Rattle.vs_walk.specs.Memory.{Memory}
 use Rattle.vs_walk.specs.Walk.{TranslatesAs}
-use Rattle.vs_plan.specs.declared.plan.Fill.{Fill}
-use Rattle.vs_plan.specs.declared.plan.Flush.{Flush}
-use Rattle.vs_plan.specs.declared.plan.Flush.TheVariants as flushes
-use Rattle.vs_plan.specs.declared.plan.Plan.{Plan}
-use Rattle.vs_plan.specs.declared.plan.Reply.{Reply}
-use Rattle.vs_plan.specs.declared.plan.Reply.TheVariants as replies
-use Rattle.vs_plan.specs.declared.plan.Step.{Step}
-use Rattle.vs_plan.specs.declared.plan.Step.TheVariants as steps
-use Rattle.vs_plan.specs.declared.plan.Store.{Store}
+use Rattle.vs_plan.specs.declared.plans.plan.Fill.{Fill}
+use Rattle.vs_plan.specs.declared.plans.plan.Flush.{Flush}
+use Rattle.vs_plan.specs.declared.plans.plan.Flush.TheVariants as flushes
+use Rattle.vs_plan.specs.declared.plans.plan.Plan.{Plan}
+use Rattle.vs_plan.specs.declared.plans.plan.Reply.{Reply}
+use Rattle.vs_plan.specs.declared.plans.plan.Reply.TheVariants as replies
+use Rattle.vs_plan.specs.declared.plans.plan.Step.{Step}
+use Rattle.vs_plan.specs.declared.plans.plan.Step.TheVariants as steps
+use Rattle.vs_plan.specs.declared.plans.plan.Store.{Store}
 use Rattle.vs_plan.specs.Shown.{IsNext}
-use Rattle.vs_plan.specs.declared.request.Request.{Request}
-use Rattle.vs_plan.specs.declared.request.Request.TheVariants.{Map, Unmap, Prune}
-use Rattle.vs_plan.specs.declared.target.Target.{Target}
+use Rattle.vs_plan.specs.declared.plans.request.Request.{Request}
+use Rattle.vs_plan.specs.declared.plans.request.Request.TheVariants.{Map, Unmap, Prune}
+use Rattle.vs_plan.specs.declared.plans.target.Target.{Target}
 use Rattle.vs_plan.specs.Premise.{IsPremise}
 use Rattle.vs_plan.specs.Request.{address_of, refusal, stepped}
 use Rattle.vs_plan.specs.Answered.{IsReply, refusal_in, space_after, AllowsLess, WantsMore}
@@ -35,7 +35,7 @@ use Rattle.vs_plan.specs.Answered.{IsDue, LeadsBeyond}
 use Rattle.vs_plan.specs.Target.{frames_end}
 use Rattle.vs_plan.specs.Stores.{stored, stored_all, AreSafe}
 use Rattle.vs_plan.specs.Way.{IsWay}
-use Rattle.vs_plan.specs.declared.planner.Planner.{Planner}
+use Rattle.vs_plan.specs.declared.plans.planner.Planner.{Planner}
 use Rattle.vs_plan.specs.inside.Ended.{IsAtEnd, HasEnded, ChangesNothing, IsPlanned}
 use Rattle.vs_plan.proofs.EntryStores.{IsOwnTable}
 use Rattle.vs_plan.proofs.Stored.{used_word}

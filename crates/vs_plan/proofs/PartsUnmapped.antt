@@ -2,8 +2,8 @@
 use Rattle.std.proofs.Common.{◌≡◌, ℕ, zero, suc, ◌+◌, None, subst}
 use Rattle.vs_types.specs.Space.{Space, IsSpace}
 use Rattle.vs_types.specs.Step.{Stepped}
-use Rattle.vs_types.specs.declared.depth.Depth.{Depth}
-use Rattle.vs_types.specs.declared.page.Page.{Page}
+use Rattle.vs_types.specs.declared.addresses.depth.Depth.{Depth}
+use Rattle.vs_types.specs.declared.addresses.page.Page.{Page}
 use Rattle.vs_types.proofs.Spaces.{remove_space}
 use Rattle.vs_types.proofs.Steps.{unmap_cases}
 use Rattle.vs_plan.specs.Changes.{part, split_refusal, unmap_each, unmap_part}

@@ -4,20 +4,20 @@ use Rattle.std.specs.List.{AllZip}
 use Rattle.vs_types.specs.Depth.{levels, index_at}
 use Rattle.vs_types.specs.Entry.{size_at}
 use Rattle.vs_types.specs.Page.{level_of, intersection}
-use Rattle.vs_types.specs.declared.page.Page.{Page}
-use Rattle.vs_types.specs.declared.page.Rights.{Rights}
-use Rattle.vs_types.specs.declared.page.Size.{Size}
+use Rattle.vs_types.specs.declared.addresses.page.Page.{Page}
+use Rattle.vs_types.specs.declared.addresses.page.Rights.{Rights}
+use Rattle.vs_types.specs.declared.addresses.page.Size.{Size}
 use Rattle.vs_walk.specs.Memory.{Memory}
 use Rattle.vs_space.specs.Flags.{IsSameButFlags, AreSameButFlags}
 use Rattle.vs_space.specs.Held.{word_at}
 use Rattle.vs_space.specs.Path.{table_at}
 use Rattle.vs_space.proofs.FlaggedWords.{flagged_meaning}
 use Rattle.vs_space.proofs.Written.{leaf_aligned}
-use Rattle.vs_plan.specs.declared.plan.Fill.{Fill}
-use Rattle.vs_plan.specs.declared.plan.Store.{Store}
-use Rattle.vs_plan.specs.declared.request.Request.{Request}
-use Rattle.vs_plan.specs.declared.request.Request.TheVariants.{Unmap, Protect, Remap, Split, Join, Prune, UnmapPart, Collapse}
-use Rattle.vs_plan.specs.declared.target.Target.{Target}
+use Rattle.vs_plan.specs.declared.plans.plan.Fill.{Fill}
+use Rattle.vs_plan.specs.declared.plans.plan.Store.{Store}
+use Rattle.vs_plan.specs.declared.plans.request.Request.{Request}
+use Rattle.vs_plan.specs.declared.plans.request.Request.TheVariants.{Unmap, Protect, Remap, Split, Join, Prune, UnmapPart, Collapse}
+use Rattle.vs_plan.specs.declared.plans.target.Target.{Target}
 use Rattle.vs_types.specs.Bits.{HasFlagsSet, bits_in, flagged, flags_into, page_word, with_address, with_rights}
 use Rattle.vs_plan.specs.Changes.{larger, smaller}
 use Rattle.vs_plan.specs.Right.{IsEntryOf, IsOfPage, IsRemapped, IsSplit, IsJoined, IsCollapsed, IsCut, IsPut}

@@ -5,12 +5,12 @@ use lib.Pow.{pow_mono}
 use Rattle.std.proofs.lemmas.Bool.{ltb-true, ltb-false}
 use Rattle.vs_types.specs.Depth.{is_canonical, IsCanonical}
 use Rattle.vs_types.specs.Page.{bytes_of}
-use Rattle.vs_types.specs.declared.page.Page.{Page}
+use Rattle.vs_types.specs.declared.addresses.page.Page.{Page}
 use Rattle.vs_types.proofs.Pages.{level_at_most}
-use Rattle.vs_plan.specs.declared.request.BadRequest.{BadRequest}
-use Rattle.vs_plan.specs.declared.request.Request.{Request}
-use Rattle.vs_plan.specs.declared.request.Request.TheVariants.{Map, Ask, Prune, UnmapPart}
-use Rattle.vs_plan.specs.declared.target.Target.{Target}
+use Rattle.vs_plan.specs.declared.plans.request.BadRequest.{BadRequest}
+use Rattle.vs_plan.specs.declared.plans.request.Request.{Request}
+use Rattle.vs_plan.specs.declared.plans.request.Request.TheVariants.{Map, Ask, Prune, UnmapPart}
+use Rattle.vs_plan.specs.declared.plans.target.Target.{Target}
 use Rattle.vs_types.specs.Bits.{AreBits}
 use Rattle.vs_plan.specs.Request.{ArePartsOf, IsRequest, IsMapped, IsWhole, address_of, lowest_of, are_bits, request_fault, page_fault, base_fault, part_fault, whole_fault}
 use Rattle.vs_plan.specs.Target.{frames_end}

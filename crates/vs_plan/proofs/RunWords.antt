@@ -5,8 +5,8 @@ use Rattle.std.specs.Prelude.{not, ◌==◌, ◌||◌, ◌&&◌, nat_le}
 use Rattle.std.specs.Int.{bit_at}
 use Rattle.vs_types.specs.Depth.{entry_bytes}
 use Rattle.vs_types.specs.Entry.{meaning, is_leaf, has_reserved, rights_of}
-use Rattle.vs_types.specs.declared.page.Rights.{Rights}
-use Rattle.vs_types.specs.declared.entry.Meaning.TheVariants as entry
+use Rattle.vs_types.specs.declared.addresses.page.Rights.{Rights}
+use Rattle.vs_types.specs.declared.entries.entry.Meaning.TheVariants as entry
 use Rattle.vs_walk.proofs.Walks.{leaf_level}
 use Rattle.vs_types.proofs.Placed.{said, reserved_from, rights_same}
 

@@ -9,10 +9,10 @@ use Rattle.vs_types.specs.Entry.{meaning}
 use Rattle.vs_types.specs.Page.{level_of, bytes_of, covers, intersection, IsPage}
 use Rattle.vs_types.specs.Space.{Space, page_at, table_count, least_overlapped}
 use Rattle.vs_types.specs.Step.{Stepped}
-use Rattle.vs_types.specs.declared.page.Page.{Page}
-use Rattle.vs_types.specs.declared.page.Rights.{Rights}
-use Rattle.vs_types.specs.declared.entry.Meaning.TheVariants as entry
-use Rattle.vs_types.specs.declared.answer.Answer.TheVariants as answers
+use Rattle.vs_types.specs.declared.addresses.page.Page.{Page}
+use Rattle.vs_types.specs.declared.addresses.page.Rights.{Rights}
+use Rattle.vs_types.specs.declared.entries.entry.Meaning.TheVariants as entry
+use Rattle.vs_types.specs.declared.requests.answer.Answer.TheVariants as answers
 use Rattle.vs_types.proofs.Pages.{covers_means, covered_canonical, canonical_fits, level_at_most, three_levels}
 use Rattle.vs_walk.specs.Memory.{Memory}
 use Rattle.vs_walk.specs.Walk.{walk, TranslatesAs}
@@ -23,10 +23,10 @@ use Rattle.vs_space.proofs.Meets.{never_table}
 use Rattle.vs_space.proofs.Overlaps.{overlapped_least}
 use Rattle.vs_space.proofs.Prunes.{word_in, entry_word}
 use Rattle.vs_space.proofs.Regions.{nothing_at, path_covers}
-use Rattle.vs_plan.specs.declared.plan.Plan.{Plan}
-use Rattle.vs_plan.specs.declared.plan.Reply.TheVariants as replies
-use Rattle.vs_plan.specs.declared.planner.Planner.{Planner}
-use Rattle.vs_plan.specs.declared.request.Request.TheVariants.{Map}
+use Rattle.vs_plan.specs.declared.plans.plan.Plan.{Plan}
+use Rattle.vs_plan.specs.declared.plans.plan.Reply.TheVariants as replies
+use Rattle.vs_plan.specs.declared.plans.planner.Planner.{Planner}
+use Rattle.vs_plan.specs.declared.plans.request.Request.TheVariants.{Map}
 use Rattle.vs_plan.specs.Premise.{IsPremise}
 use Rattle.vs_plan.specs.Request.{IsRequest, IsMapped, IsWhole, address_of, lowest_of, stepped}
 use Rattle.vs_plan.specs.Answered.{LiesOverEmpty}
@@ -34,7 +34,7 @@ use Rattle.vs_plan.specs.Right.{IsRight}
 use Rattle.vs_plan.specs.Shown.{IsSearched, IsShown, IsShownIn}
 use Rattle.vs_plan.specs.Target.{frames_end}
 use Rattle.vs_plan.specs.Way.{IsWay}
-use Rattle.vs_plan.specs.declared.planner.Phase.TheVariants as phases
+use Rattle.vs_plan.specs.declared.plans.planner.Phase.TheVariants as phases
 use Rattle.vs_plan.specs.inside.Ended.{IsAtEnd, HasEnded, IsFirstPresent, ChangesNothing}
 use Rattle.vs_plan.proofs.Pages.{reserved_never, page_here, premise_table}
 use Rattle.vs_plan.proofs.Parts.{beyond_right, leads_beyond, nothing_right, due_as}

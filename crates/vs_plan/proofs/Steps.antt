@@ -5,10 +5,10 @@ use Rattle.vs_types.specs.Depth.{levels, IsCanonical}
 use Rattle.vs_types.specs.Page.{level_of, bytes_of, covers, IsPage}
 use Rattle.vs_types.specs.Space.{Space, page_at, table_count}
 use Rattle.vs_types.specs.Step.{step, Stepped}
-use Rattle.vs_types.specs.declared.depth.Depth.{Depth}
-use Rattle.vs_types.specs.declared.op.Action.TheVariants.{Map}
-use Rattle.vs_types.specs.declared.page.Page.{Page}
-use Rattle.vs_types.specs.declared.answer.Answer.TheVariants as answers
+use Rattle.vs_types.specs.declared.addresses.depth.Depth.{Depth}
+use Rattle.vs_types.specs.declared.requests.op.Action.TheVariants.{Map}
+use Rattle.vs_types.specs.declared.addresses.page.Page.{Page}
+use Rattle.vs_types.specs.declared.requests.answer.Answer.TheVariants as answers
 use Rattle.vs_types.proofs.Looks.{done_looks}
 use Rattle.vs_types.proofs.Pages.{covered_canonical}
 use Rattle.vs_walk.specs.Memory.{Memory}

@@ -6,13 +6,13 @@ use Rattle.vs_types.proofs.Lists.{Contains-head, Contains-tail}
 use Rattle.vs_walk.specs.Memory.{Memory}
 use Rattle.vs_space.specs.Held.{word_at}
 use Rattle.vs_space.proofs.Writes.{get_written_other}
-use Rattle.vs_plan.specs.declared.plan.Store.{Store}
+use Rattle.vs_plan.specs.declared.plans.plan.Store.{Store}
 use Rattle.vs_plan.specs.Shown.{frames_of}
 use Rattle.vs_plan.specs.Stores.{stored, stored_all, FindTheirWords}
 use Rattle.vs_types.specs.Depth.{index_at}
 use Rattle.vs_types.specs.Entry.{meaning}
 use Rattle.vs_space.specs.Path.{found_at}
-use Rattle.vs_types.specs.declared.entry.Meaning.TheVariants as entry
+use Rattle.vs_types.specs.declared.entries.entry.Meaning.TheVariants as entry
 
 pub stored_push : (m : Memory) (stores : List Store) (s : Store) → stored_all m (stores ++ s ∷ []) ≡ stored (stored_all m stores) s
 stored_push m [] s = refl

@@ -1,16 +1,16 @@
 -- Which flush suffices after stores that add, after stores that take away, and after one store that changes an entry.
 use Rattle.std.proofs.Common.{◌≡◌, ℕ, zero, suc, ◌≤◌, List, [], ◌∷◌, take, length, Contains, Some, ◌⊎◌, inl, inr, ⊎_elim, refl, ◌∙◌}
 use Rattle.vs_types.specs.Depth.{levels, IsCanonical}
-use Rattle.vs_types.specs.declared.depth.Depth.{Depth}
-use Rattle.vs_types.specs.declared.page.Rights.{Rights}
-use Rattle.vs_types.specs.declared.page.Size.{Size}
+use Rattle.vs_types.specs.declared.addresses.depth.Depth.{Depth}
+use Rattle.vs_types.specs.declared.addresses.page.Rights.{Rights}
+use Rattle.vs_types.specs.declared.addresses.page.Size.{Size}
 use Rattle.vs_walk.specs.Memory.{Memory}
 use Rattle.vs_walk.specs.Walk.{walk}
 use Rattle.vs_walk.specs.declared.walk.Walk.{Walk}
 use Rattle.vs_space.specs.Path.{table_at}
-use Rattle.vs_plan.specs.declared.plan.Flush.{Flush}
-use Rattle.vs_plan.specs.declared.plan.Flush.TheVariants.{Nothing, Page, PageAndTables, Range}
-use Rattle.vs_plan.specs.declared.plan.Store.{Store}
+use Rattle.vs_plan.specs.declared.plans.plan.Flush.{Flush}
+use Rattle.vs_plan.specs.declared.plans.plan.Flush.TheVariants.{Nothing, Page, PageAndTables, Range}
+use Rattle.vs_plan.specs.declared.plans.plan.Store.{Store}
 use Rattle.vs_plan.specs.Processor.{Kept, Translation, PagingEntry, Moment, Is, IsDropped, MayKeep, MayFind, IsUpToDate}
 use Rattle.vs_plan.specs.Stores.{stored, stored_all}
 use Rattle.vs_plan.specs.Flushed.{while_stored, Suffices}

@@ -6,19 +6,19 @@ use Rattle.vs_types.specs.Depth.{levels, index_at}
 use Rattle.vs_types.specs.Laws.{changes}
 use Rattle.vs_types.specs.Space.{Space, page_at}
 use Rattle.vs_types.specs.Step.{Stepped, look_in_page}
-use Rattle.vs_types.specs.declared.answer.Answer.{Answer}
-use Rattle.vs_types.specs.declared.answer.Answer.TheVariants as answers
-use Rattle.vs_types.specs.declared.page.Page.{Page}
-use Rattle.vs_types.specs.declared.page.Size.{Size}
+use Rattle.vs_types.specs.declared.requests.answer.Answer.{Answer}
+use Rattle.vs_types.specs.declared.requests.answer.Answer.TheVariants as answers
+use Rattle.vs_types.specs.declared.addresses.page.Page.{Page}
+use Rattle.vs_types.specs.declared.addresses.page.Size.{Size}
 use Rattle.vs_types.proofs.Steps.{unmap_cases, protect_cases}
 use Rattle.vs_walk.specs.Memory.{Memory}
 use Rattle.vs_space.specs.Flags.{AreSameButFlags}
 use Rattle.vs_space.specs.Held.{word_at}
 use Rattle.vs_space.specs.Path.{table_at}
-use Rattle.vs_plan.specs.declared.plan.Reply.TheVariants as replies
-use Rattle.vs_plan.specs.declared.request.Request.{Request}
-use Rattle.vs_plan.specs.declared.request.Request.TheVariants.{Map, Unmap, Protect, Ask, Prune}
-use Rattle.vs_plan.specs.declared.target.Target.{Target}
+use Rattle.vs_plan.specs.declared.plans.plan.Reply.TheVariants as replies
+use Rattle.vs_plan.specs.declared.plans.request.Request.{Request}
+use Rattle.vs_plan.specs.declared.plans.request.Request.TheVariants.{Map, Unmap, Protect, Ask, Prune}
+use Rattle.vs_plan.specs.declared.plans.target.Target.{Target}
 use Rattle.vs_plan.specs.Again.{bits_again, told_again}
 use Rattle.vs_types.specs.Bits.{HasFlagsSet, bits_in, flags_into}
 use Rattle.vs_plan.specs.Request.{stepped, address_of}

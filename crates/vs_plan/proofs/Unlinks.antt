@@ -11,9 +11,9 @@ use Rattle.std.specs.FinMap as finite
 use Rattle.std.proofs.lemmas.Option.{same_Some}
 use Rattle.vs_types.specs.Depth.{levels, index_at}
 use Rattle.vs_types.specs.Entry.{meaning}
-use Rattle.vs_types.specs.declared.depth.Depth.{Depth}
-use Rattle.vs_types.specs.declared.page.Rights.{Rights}
-use Rattle.vs_types.specs.declared.entry.Meaning.TheVariants as entry
+use Rattle.vs_types.specs.declared.addresses.depth.Depth.{Depth}
+use Rattle.vs_types.specs.declared.addresses.page.Rights.{Rights}
+use Rattle.vs_types.specs.declared.entries.entry.Meaning.TheVariants as entry
 use Rattle.vs_types.proofs.Lists.{Contains-head, Contains-tail}
 use Rattle.vs_arena.specs.Store.{zeros}
 use Rattle.vs_walk.specs.Memory.{Memory, AreWhole}
@@ -27,7 +27,7 @@ use Rattle.vs_space.proofs.Writes.{get_written, get_written_other, words_in, sam
 use Rattle.vs_space.proofs.Links.{found_in_zeros, zeros_are}
 use Rattle.vs_space.proofs.Written.{word_alike}
 use Rattle.vs_plan.proofs.Ways.{way_table, way_walk, walk_level}
-use Rattle.vs_plan.specs.declared.plan.Store.{Store}
+use Rattle.vs_plan.specs.declared.plans.plan.Store.{Store}
 use Rattle.vs_plan.specs.Premise.{HasOwnWay}
 use Rattle.vs_plan.specs.Shown.{HasOneWord}
 use Rattle.vs_plan.specs.Stores.{stored, stored_all, FindTheirWords}

@@ -5,18 +5,18 @@ use Rattle.vs_types.specs.Depth.{IsCanonical}
 use Rattle.vs_types.specs.Page.{covers}
 use Rattle.vs_types.specs.Space.{Space, IsSpace, Holds, pages, page_at}
 use Rattle.vs_types.specs.Step.{Stepped, look}
-use Rattle.vs_types.specs.declared.depth.Depth.{Depth}
-use Rattle.vs_types.specs.declared.page.Page.{Page}
-use Rattle.vs_types.specs.declared.page.Rights.{Rights}
-use Rattle.vs_types.specs.declared.page.Size.{Size}
-use Rattle.vs_types.specs.declared.page.Size.TheVariants.{G1}
+use Rattle.vs_types.specs.declared.addresses.depth.Depth.{Depth}
+use Rattle.vs_types.specs.declared.addresses.page.Page.{Page}
+use Rattle.vs_types.specs.declared.addresses.page.Rights.{Rights}
+use Rattle.vs_types.specs.declared.addresses.page.Size.{Size}
+use Rattle.vs_types.specs.declared.addresses.page.Size.TheVariants.{G1}
 use Rattle.vs_types.proofs.Lists.{find_found, find_nothing}
 use Rattle.vs_types.proofs.Pages.{covers_base}
 use Rattle.vs_types.proofs.Maps.{get-insert_same}
 use Rattle.vs_types.proofs.Spaces.{found_value, insert_cases, page_at_means, value_found}
 use Rattle.vs_walk.specs.Walk.{as_walk}
 use Rattle.vs_walk.specs.declared.walk.Walk.TheVariants.{Mapped}
-use Rattle.vs_plan.specs.declared.plan.Reply.TheVariants as replies
+use Rattle.vs_plan.specs.declared.plans.plan.Reply.TheVariants as replies
 use Rattle.vs_plan.specs.Changes.{larger, whole_of, without_parts, join, join_refusal, not_first}
 use Rattle.vs_plan.proofs.Changing.{change_here, why_here}
 use Rattle.vs_plan.proofs.Given.{BeginsThere, begins_canonical}

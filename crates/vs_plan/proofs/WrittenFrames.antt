@@ -1,8 +1,8 @@
 -- Plans of the same stores, but for flags, write the same frames.
 use Rattle.std.proofs.Common.{◌≡◌, List, ◌∷◌, [], ◌++◌, ℕ, Option, Some, None, refl, sym, ap, ◌∙◌}
 use Rattle.std.specs.List.{AllZip}
-use Rattle.vs_plan.specs.declared.plan.Fill.{Fill}
-use Rattle.vs_plan.specs.declared.plan.Store.{Store}
+use Rattle.vs_plan.specs.declared.plans.plan.Fill.{Fill}
+use Rattle.vs_plan.specs.declared.plans.plan.Store.{Store}
 use Rattle.vs_plan.specs.Again.{fill_again}
 use Rattle.vs_plan.specs.Right.{written_frames}
 use Rattle.vs_plan.specs.Shown.{frames_of}

@@ -1,14 +1,14 @@
 -- What a processor lives through while flags are set in entries, beside the memories that are given.
 use Rattle.std.specs.Prelude.{◌≡◌, ◌⊎◌, ◌≤◌, ℕ, List, ◌∷◌, Contains, length, take}
 use Rattle.vs_types.specs.Depth.{IsCanonical}
-use Rattle.vs_types.specs.declared.depth.Depth.{Depth}
-use Rattle.vs_types.specs.declared.page.Rights.{Rights}
+use Rattle.vs_types.specs.declared.addresses.depth.Depth.{Depth}
+use Rattle.vs_types.specs.declared.addresses.page.Rights.{Rights}
 use Rattle.vs_walk.specs.Memory.{Memory}
 use Rattle.vs_walk.specs.Walk.{walk}
 use Rattle.vs_walk.specs.declared.walk.Walk.{Walk}
 use Rattle.vs_space.specs.Flags.{AreSameButFlags}
-use Rattle.vs_plan.specs.declared.plan.Flush.{Flush}
-use Rattle.vs_plan.specs.declared.plan.Store.{Store}
+use Rattle.vs_plan.specs.declared.plans.plan.Flush.{Flush}
+use Rattle.vs_plan.specs.declared.plans.plan.Store.{Store}
 use Rattle.vs_plan.specs.Flushed.{while_stored}
 use Rattle.vs_plan.specs.Processor.{Moment, Is, Flushes, PagingEntry, MayKeep, MayFind, IsUpToDate}
 use Rattle.vs_plan.specs.Stores.{stored_all}

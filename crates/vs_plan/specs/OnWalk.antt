@@ -1,8 +1,8 @@
 -- The least that a flush drops.
 use Rattle.std.specs.Prelude.{◌≡◌, ℕ, ◌+◌, ◌<◌, ◌≤◌}
 use Rattle.vs_types.specs.Page.{bytes_of}
-use Rattle.vs_plan.specs.declared.plan.Flush.{Flush}
-use Rattle.vs_plan.specs.declared.plan.Flush.TheVariants.{Nothing, Page, PageAndTables, Range}
+use Rattle.vs_plan.specs.declared.plans.plan.Flush.{Flush}
+use Rattle.vs_plan.specs.declared.plans.plan.Flush.TheVariants.{Nothing, Page, PageAndTables, Range}
 use Rattle.vs_plan.specs.Processor.{Kept, Translation, PagingEntry, IsDropped, region_number}
 
 -- translations as ever, but of the entries that lead to tables only those on the walks of the addresses that are flushed: so does an INVPCID

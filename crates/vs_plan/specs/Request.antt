@@ -5,16 +5,16 @@ use Rattle.vs_types.specs.Depth.{is_canonical, IsCanonical}
 use Rattle.vs_types.specs.Page.{level_of, bytes_of, IsPage}
 use Rattle.vs_types.specs.Space.{Space, table_count}
 use Rattle.vs_types.specs.Step.{Stepped, step, look}
-use Rattle.vs_types.specs.declared.depth.Depth.{Depth}
-use Rattle.vs_types.specs.declared.page.Page.{Page}
-use Rattle.vs_types.specs.declared.answer.Answer.TheVariants.{Done}
-use Rattle.vs_types.specs.declared.op.Action.TheVariants as actions
-use Rattle.vs_plan.specs.declared.target.Target.{Target}
-use Rattle.vs_plan.specs.declared.request.Request.{Request}
-use Rattle.vs_plan.specs.declared.request.Request.TheVariants.{Map, Unmap, Protect, Ask, Remap, Split, Join, Prune, UnmapPart, Collapse}
-use Rattle.vs_plan.specs.declared.request.BadRequest.{BadRequest}
-use Rattle.vs_plan.specs.declared.request.BadRequest.TheVariants.{PhysBits, RootRange, NotCanonical, Unaligned, PhysUnaligned, PhysRange, Bits, Part}
-use Rattle.vs_plan.specs.declared.plan.Reply.{Reply}
+use Rattle.vs_types.specs.declared.addresses.depth.Depth.{Depth}
+use Rattle.vs_types.specs.declared.addresses.page.Page.{Page}
+use Rattle.vs_types.specs.declared.requests.answer.Answer.TheVariants.{Done}
+use Rattle.vs_types.specs.declared.requests.op.Action.TheVariants as actions
+use Rattle.vs_plan.specs.declared.plans.target.Target.{Target}
+use Rattle.vs_plan.specs.declared.plans.request.Request.{Request}
+use Rattle.vs_plan.specs.declared.plans.request.Request.TheVariants.{Map, Unmap, Protect, Ask, Remap, Split, Join, Prune, UnmapPart, Collapse}
+use Rattle.vs_plan.specs.declared.plans.request.BadRequest.{BadRequest}
+use Rattle.vs_plan.specs.declared.plans.request.BadRequest.TheVariants.{PhysBits, RootRange, NotCanonical, Unaligned, PhysUnaligned, PhysRange, Bits, Part}
+use Rattle.vs_plan.specs.declared.plans.plan.Reply.{Reply}
 use Rattle.vs_types.specs.Bits.{AreBits}
 use Rattle.vs_plan.specs.Changes.{remap, split, join, unmap_part, collapse, remap_refusal, split_refusal, join_refusal, collapse_refusal}
 use Rattle.vs_plan.specs.Target.{HasPhysBits, frames_end}

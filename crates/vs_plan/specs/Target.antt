@@ -1,7 +1,7 @@
 -- Page tables in a kernel's own frames: how many frames there can be, and which tables may be unlinked.
 use Rattle.std.specs.Prelude.{ℕ, ◌-◌, ◌^◌, ◌<◌, ◌≤◌, min, nat_eq, if◌then◌else◌}
 use Rattle.vs_types.specs.Depth.{levels}
-use Rattle.vs_plan.specs.declared.target.Target.{Target}
+use Rattle.vs_plan.specs.declared.plans.target.Target.{Target}
 
 -- from 36 bits, the fewest that processors have, to 52, the most
 pub record HasPhysBits (target : Target) : Type 0 where

@@ -3,15 +3,15 @@
 ghost use Rattle.std.specs.Prelude.{◌≡◌, ◌≢◌, ◌↔◌, ◌+◌, ◌*◌, ◌%◌, ◌^◌, ◌<◌, ◌≤◌, ℕ, None};
 ghost use Rattle.vs_types.specs.Entry.{meaning, size_at};
 ghost use Rattle.vs_types.specs.Page.{bytes_of};
-ghost use Rattle.vs_types.specs.declared.entry.Meaning.{Meaning};
-ghost use Rattle.vs_types.specs.declared.page.Rights.{Rights};
+ghost use Rattle.vs_types.specs.declared.entries.entry.Meaning.{Meaning};
+ghost use Rattle.vs_types.specs.declared.addresses.page.Rights.{Rights};
 ghost use Rattle.vs_types.specs.Bits.{bits_in, unflagged};
 ghost use Rattle.vs_plan.specs.Answered.{Follows};
 ghost use Rattle.vs_types.specs.Space.{Space, IsSpace};
 ghost use Rattle.vs_types.specs.Step.{look};
-ghost use Rattle.vs_types.specs.declared.depth.Depth.{Depth};
-ghost use Rattle.vs_types.specs.declared.page.Page.{Page};
-ghost use Rattle.vs_types.specs.declared.page.Size.{Size};
+ghost use Rattle.vs_types.specs.declared.addresses.depth.Depth.{Depth};
+ghost use Rattle.vs_types.specs.declared.addresses.page.Page.{Page};
+ghost use Rattle.vs_types.specs.declared.addresses.page.Size.{Size};
 ghost use Rattle.vs_plan.specs.Changes.{split, split_refusal, join, join_refusal, larger, HasParts, leads_to};
 
 /// A split that isn't refused leaves a space of well-formed pages that lie apart, in which each address leads to the same physical

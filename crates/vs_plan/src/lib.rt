@@ -8,31 +8,19 @@
 //! Addresses are in bytes. A frame number is a physical address divided by 4,096.
 #![tactic(auto)]
 
-mod again;
 pub mod changes;
-mod collapse;
-mod division;
 pub mod flags;
-mod growth;
-mod join;
 pub mod laws;
-mod others;
-mod plan;
-mod planner;
-mod prune;
-mod reading;
-mod remap;
-mod request;
-mod search;
-mod target;
-mod word;
+mod plans;
+mod tables;
+mod words;
 
-pub use others::has_other;
-pub use plan::{Fill, Flush, MOST_STORES, MOST_UNLINKED, Plan, Reply, Step, Store};
-pub use planner::{Asks, Phase, Planner};
-pub use reading::{FrameWords, PlainWords};
-pub use request::{BadRequest, Request, ends_beyond};
-pub use target::Target;
+pub use plans::plan::{Fill, Flush, MOST_STORES, MOST_UNLINKED, Plan, Reply, Step, Store};
+pub use plans::planner::{Asks, Phase, Planner};
+pub use plans::request::{BadRequest, Request, ends_beyond};
+pub use plans::target::Target;
+pub use tables::others::has_other;
 pub use vs_types::{
     ABOVE_FLAGS, BELOW_FLAGS, are_bits, bits_in, page_word, with_address, with_rights,
 };
+pub use words::reading::{FrameWords, PlainWords};

@@ -10,10 +10,10 @@ use Rattle.vs_types.specs.Depth.{entry_bytes, levels, IsCanonical}
 use Rattle.vs_types.specs.Entry.{all_rights, size_at}
 use Rattle.vs_types.specs.Page.{intersection}
 use Rattle.vs_types.specs.Space.{Space}
-use Rattle.vs_types.specs.declared.depth.Depth.{Depth}
-use Rattle.vs_types.specs.declared.page.Rights.{Rights}
-use Rattle.vs_types.specs.declared.entry.Meaning.{Meaning}
-use Rattle.vs_types.specs.declared.entry.Meaning.TheVariants as entry
+use Rattle.vs_types.specs.declared.addresses.depth.Depth.{Depth}
+use Rattle.vs_types.specs.declared.addresses.page.Rights.{Rights}
+use Rattle.vs_types.specs.declared.entries.entry.Meaning.{Meaning}
+use Rattle.vs_types.specs.declared.entries.entry.Meaning.TheVariants as entry
 use Rattle.vs_walk.specs.Memory.{Memory}
 use Rattle.vs_walk.specs.Walk.{walk, walk_from}
 use Rattle.vs_walk.specs.declared.walk.Walk.{Walk}
@@ -24,8 +24,8 @@ use Rattle.vs_space.specs.Path.{found_at}
 use Rattle.vs_space.proofs.Flagged.{flagged_found}
 use Rattle.vs_space.proofs.Paths.{walk_found, walk_lost, found_same}
 use Rattle.vs_space.proofs.Writes.{found_alike, get_written_other}
-use Rattle.vs_plan.specs.declared.plan.Store.{Store}
-use Rattle.vs_plan.specs.declared.target.Target.{Target}
+use Rattle.vs_plan.specs.declared.plans.plan.Store.{Store}
+use Rattle.vs_plan.specs.declared.plans.target.Target.{Target}
 use Rattle.vs_plan.specs.Flushed.{Suffices, while_stored}
 use Rattle.vs_plan.specs.Processor.{page_number, region_number, Kept, Translation, PagingEntry, KeptBefore, OfRoot, OfTable, OfPage}
 use Rattle.vs_plan.specs.Processor.{Moment, Is, MayKeep, MayFind, ByTranslation, ByWalk, IsUpToDate}

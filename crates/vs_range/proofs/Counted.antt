@@ -2,9 +2,9 @@
 use Rattle.std.proofs.Common.{◌≡◌, ℕ, List, [], ◌∷◌, ◌++◌, Bool, true, false, ◌⊎◌, inl, inr, ⊎_elim, refl, sym, ap, subst, ◌∙◌}
 use Rattle.std.specs.Prelude.{if◌then◌else◌}
 use Rattle.vs_types.specs.Entry.{all_rights}
-use Rattle.vs_types.specs.declared.page.Rights.{Rights}
-use Rattle.vs_plan.specs.declared.plan.Flush.{Flush}
-use Rattle.vs_plan.specs.declared.plan.Flush.TheVariants.{Nothing, Page, PageAndTables, Range}
+use Rattle.vs_types.specs.declared.addresses.page.Rights.{Rights}
+use Rattle.vs_plan.specs.declared.plans.plan.Flush.{Flush}
+use Rattle.vs_plan.specs.declared.plans.plan.Flush.TheVariants.{Nothing, Page, PageAndTables, Range}
 use Rattle.vs_plan.specs.Processor.{Kept, PagingEntry, IsDropped}
 use Rattle.vs_range.specs.Several.{Call, IsDroppedByOne, HaveAll, drops_tables, from_tables, that_count, HaveAllInOrder, flushes_of}
 

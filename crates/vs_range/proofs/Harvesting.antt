@@ -4,12 +4,12 @@ use Rattle.std.specs.Prelude.{slice_index, nat_eq, unwrap_or, if◌then◌else�
 use Rattle.std.specs.FinMap as finite
 use Rattle.std.proofs.lemmas.List.Elements.{All-nil, All-cons}
 use Rattle.vs_types.specs.Page.{bytes_of}
-use Rattle.vs_types.specs.declared.page.Size.{Size}
+use Rattle.vs_types.specs.declared.addresses.page.Size.{Size}
 use Rattle.vs_walk.specs.Memory.{Memory}
 use Rattle.vs_space.specs.Held.{word_at}
 use Rattle.vs_space.proofs.Footprints.{word_elsewhere}
 use Rattle.vs_space.proofs.Written.{word_of}
-use Rattle.vs_plan.specs.declared.plan.Store.{Store}
+use Rattle.vs_plan.specs.declared.plans.plan.Store.{Store}
 use Rattle.vs_types.specs.Bits.{unflagged}
 use Rattle.vs_plan.specs.Processor.{page_number, Translation}
 use Rattle.vs_plan.specs.Stores.{stored, FindTheirWords}

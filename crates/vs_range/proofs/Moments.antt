@@ -1,6 +1,6 @@
 -- Moments of which one processor lives through more than another.
 use Rattle.std.proofs.Common.{ℕ, List, [], ◌∷◌}
-use Rattle.vs_types.specs.declared.depth.Depth.{Depth}
+use Rattle.vs_types.specs.declared.addresses.depth.Depth.{Depth}
 use Rattle.vs_walk.specs.Memory.{Memory}
 use Rattle.vs_plan.specs.Processor.{Kept, KeptBefore, OfRoot, OfTable, OfPage, Moment, Is, MayKeep}
 use Rattle.vs_plan.proofs.Kept.{IsClosed, all_kept}

@@ -4,11 +4,11 @@ use Rattle.std.proofs.lemmas.Bool.{cases_eq}
 use Rattle.vs_types.specs.Depth.{entry_bytes}
 use Rattle.vs_types.specs.Entry.{meaning, rights_of}
 use Rattle.vs_types.specs.Page.{bytes_of}
-use Rattle.vs_types.specs.declared.page.Rights.{Rights}
-use Rattle.vs_types.specs.declared.page.Size.{Size}
-use Rattle.vs_types.specs.declared.page.Size.TheVariants.{K4, M2, G1}
-use Rattle.vs_types.specs.declared.entry.Meaning.TheVariants as entry
-use Rattle.vs_plan.specs.declared.plan.Flush.TheVariants.{Page}
+use Rattle.vs_types.specs.declared.addresses.page.Rights.{Rights}
+use Rattle.vs_types.specs.declared.addresses.page.Size.{Size}
+use Rattle.vs_types.specs.declared.addresses.page.Size.TheVariants.{K4, M2, G1}
+use Rattle.vs_types.specs.declared.entries.entry.Meaning.TheVariants as entry
+use Rattle.vs_plan.specs.declared.plans.plan.Flush.TheVariants.{Page}
 use Rattle.vs_plan.specs.Processor.{Kept, Translation, PagingEntry, IsDropped}
 use Rattle.vs_plan.proofs.RunWords.{leaf_parts}
 use Rattle.vs_range.specs.Run.{pages_flushed}

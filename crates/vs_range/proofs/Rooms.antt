@@ -2,7 +2,7 @@
 use Rattle.std.proofs.Common.{◌≡◌, ℕ, ◌+◌, ◌*◌, ◌-◌, ◌^◌, ◌<◌, ◌≤◌, ◌⊎◌, inl, inr, ⊎_elim, ap, subst, min, arith}
 use Rattle.std.proofs.lemmas.Bool.{cases_lt}
 use Rattle.vs_types.specs.Page.{bytes_of}
-use Rattle.vs_types.specs.declared.page.Size.{Size}
+use Rattle.vs_types.specs.declared.addresses.page.Size.{Size}
 use lib.Pow.{pow_mono}
 
 module _ (size : Size) (phys end bits count : ℕ) (end_is : end ≡ 2 ^ min bits 51) (within : phys ≤ end)

@@ -5,14 +5,14 @@ use Rattle.std.specs.FinMap as finite
 use Rattle.vs_types.specs.Depth.{index_at, IsCanonical}
 use Rattle.vs_types.specs.Page.{level_of, bytes_of}
 use Rattle.vs_types.specs.Space.{Space}
-use Rattle.vs_types.specs.declared.page.Rights.{Rights}
+use Rattle.vs_types.specs.declared.addresses.page.Rights.{Rights}
 use Rattle.vs_walk.specs.Memory.{Memory}
 use Rattle.vs_space.proofs.Written.{word_of}
-use Rattle.vs_plan.specs.declared.plan.Flush.{Flush}
-use Rattle.vs_plan.specs.declared.plan.Reply.{Reply}
-use Rattle.vs_plan.specs.declared.plan.Store.{Store}
-use Rattle.vs_plan.specs.declared.request.Request.{Request}
-use Rattle.vs_plan.specs.declared.target.Target.{Target}
+use Rattle.vs_plan.specs.declared.plans.plan.Flush.{Flush}
+use Rattle.vs_plan.specs.declared.plans.plan.Reply.{Reply}
+use Rattle.vs_plan.specs.declared.plans.plan.Store.{Store}
+use Rattle.vs_plan.specs.declared.plans.request.Request.{Request}
+use Rattle.vs_plan.specs.declared.plans.target.Target.{Target}
 use Rattle.vs_plan.specs.Flushed.{while_stored}
 use Rattle.vs_plan.specs.Processor.{Kept, Moment, Is, MayKeep, IsUpToDate}
 use Rattle.vs_plan.specs.Stores.{stored_all, FindTheirWords}

@@ -4,13 +4,13 @@ use Rattle.std.specs.Prelude.{slice_index}
 use Rattle.vs_types.specs.Depth.{index_at}
 use Rattle.vs_types.specs.Entry.{meaning, size_at}
 use Rattle.vs_types.specs.Page.{bytes_of}
-use Rattle.vs_types.specs.declared.page.Page.{Page}
-use Rattle.vs_types.specs.declared.page.Rights.{Rights}
-use Rattle.vs_types.specs.declared.page.Size.{Size}
-use Rattle.vs_types.specs.declared.entry.Meaning.TheVariants as entry
+use Rattle.vs_types.specs.declared.addresses.page.Page.{Page}
+use Rattle.vs_types.specs.declared.addresses.page.Rights.{Rights}
+use Rattle.vs_types.specs.declared.addresses.page.Size.{Size}
+use Rattle.vs_types.specs.declared.entries.entry.Meaning.TheVariants as entry
 use Rattle.vs_space.proofs.Written.{size_same}
-use Rattle.vs_plan.specs.declared.request.Request.{Request}
-use Rattle.vs_plan.specs.declared.request.Request.TheVariants.{Map}
+use Rattle.vs_plan.specs.declared.plans.request.Request.{Request}
+use Rattle.vs_plan.specs.declared.plans.request.Request.TheVariants.{Map}
 use Rattle.vs_plan.proofs.Stored.{even_absent}
 use Rattle.vs_range.specs.declared.planner.RangePlanner.{RangePlanner}
 use Rattle.vs_range.specs.declared.planner.RangeStep.{RangeStep}

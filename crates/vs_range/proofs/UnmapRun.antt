@@ -7,23 +7,23 @@ use Rattle.vs_types.specs.Depth.{levels, index_at, entry_bytes}
 use Rattle.vs_types.specs.Entry.{meaning, size_at, rights_of}
 use Rattle.vs_types.specs.Page.{level_of, bytes_of, intersection}
 use Rattle.vs_types.specs.Space.{Space}
-use Rattle.vs_types.specs.declared.depth.Depth.{Depth}
-use Rattle.vs_types.specs.declared.page.Rights.{Rights}
-use Rattle.vs_types.specs.declared.page.Size.{Size}
-use Rattle.vs_types.specs.declared.answer.Answer.TheVariants as answers
-use Rattle.vs_types.specs.declared.entry.Meaning.TheVariants as entry
+use Rattle.vs_types.specs.declared.addresses.depth.Depth.{Depth}
+use Rattle.vs_types.specs.declared.addresses.page.Rights.{Rights}
+use Rattle.vs_types.specs.declared.addresses.page.Size.{Size}
+use Rattle.vs_types.specs.declared.requests.answer.Answer.TheVariants as answers
+use Rattle.vs_types.specs.declared.entries.entry.Meaning.TheVariants as entry
 use Rattle.vs_walk.specs.Memory.{Memory}
 use Rattle.vs_space.specs.Held.{word_at}
 use Rattle.vs_space.specs.Path.{table_in, table_at}
 use Rattle.vs_space.proofs.Paths.{words_found}
 use Rattle.vs_space.proofs.Written.{size_same, word_of}
-use Rattle.vs_plan.specs.declared.plan.Flush.{Flush}
-use Rattle.vs_plan.specs.declared.plan.Flush.TheVariants as flushes
-use Rattle.vs_plan.specs.declared.plan.Reply.{Reply}
-use Rattle.vs_plan.specs.declared.plan.Reply.TheVariants as replies
-use Rattle.vs_plan.specs.declared.plan.Store.{Store}
-use Rattle.vs_plan.specs.declared.request.Request.TheVariants.{Unmap}
-use Rattle.vs_plan.specs.declared.target.Target.{Target}
+use Rattle.vs_plan.specs.declared.plans.plan.Flush.{Flush}
+use Rattle.vs_plan.specs.declared.plans.plan.Flush.TheVariants as flushes
+use Rattle.vs_plan.specs.declared.plans.plan.Reply.{Reply}
+use Rattle.vs_plan.specs.declared.plans.plan.Reply.TheVariants as replies
+use Rattle.vs_plan.specs.declared.plans.plan.Store.{Store}
+use Rattle.vs_plan.specs.declared.plans.request.Request.TheVariants.{Unmap}
+use Rattle.vs_plan.specs.declared.plans.target.Target.{Target}
 use Rattle.vs_types.specs.Bits.{bits_in}
 use Rattle.vs_plan.specs.Request.{IsRequest}
 use Rattle.vs_plan.specs.Shown.{IsTableMet}

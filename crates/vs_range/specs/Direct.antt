@@ -2,10 +2,10 @@
 use Rattle.std.specs.Prelude.{◌≡◌, ◌⊎◌, ℕ, ◌+◌, ◌<◌, ◌≤◌, List, [], length, slice_index_or, Some}
 use Rattle.std.specs.FinMap as finite
 use Rattle.vs_walk.specs.Memory.{Memory}
-use Rattle.vs_plan.specs.declared.plan.Step.{Step}
-use Rattle.vs_plan.specs.declared.planner.Planner.{Planner}
-use Rattle.vs_plan.specs.declared.request.Request.{Request}
-use Rattle.vs_plan.specs.declared.target.Target.{Target}
+use Rattle.vs_plan.specs.declared.plans.plan.Step.{Step}
+use Rattle.vs_plan.specs.declared.plans.planner.Planner.{Planner}
+use Rattle.vs_plan.specs.declared.plans.request.Request.{Request}
+use Rattle.vs_plan.specs.declared.plans.target.Target.{Target}
 use Rattle.vs_plan.specs.Planner.{Awaits, HasGiven}
 use Rattle.vs_plan.specs.Shown.{IsNext}
 use Rattle.vs_plan.specs.Target.{frames_end}

@@ -1,7 +1,7 @@
 //! Plans over frames that lie one after another in memory, as in a direct map.
 ghost use Rattle.std.specs.Prelude.{◌≡◌, ◌-◌, ◌<◌, ◌≤◌, ℕ, Some, IfNone, IfSome, MatchResult, length, slice_index_or};
 ghost use Rattle.vs_walk.specs.Memory.{Memory};
-ghost use Rattle.vs_plan.specs.declared.plan.Step.{Step};
+ghost use Rattle.vs_plan.specs.declared.plans.plan.Step.{Step};
 ghost use Rattle.vs_plan.specs.Planner.{AwaitsWords};
 ghost use Rattle.vs_plan.specs.Request.{request_fault};
 ghost use Rattle.vs_plan.specs.Shown.{IsShown};

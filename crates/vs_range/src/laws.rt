@@ -3,13 +3,13 @@
 ghost use Rattle.std.specs.Prelude.{◌≡◌, ◌≢◌, ◌≤◌, ◌++◌, ◌∷◌, ℕ, List, [], Contains, Some, length, take};
 ghost use Rattle.vs_types.specs.Depth.{levels, IsCanonical};
 ghost use Rattle.vs_types.specs.Space.{Space};
-ghost use Rattle.vs_types.specs.declared.page.Rights.{Rights};
+ghost use Rattle.vs_types.specs.declared.addresses.page.Rights.{Rights};
 ghost use Rattle.vs_walk.specs.Memory.{Memory};
 ghost use Rattle.vs_walk.specs.declared.walk.Walk.{Walk};
 ghost use Rattle.vs_space.specs.Flags.{AreSameButFlags};
 ghost use Rattle.vs_space.specs.Path.{table_at};
-ghost use Rattle.vs_plan.specs.declared.plan.Flush.{Flush};
-ghost use Rattle.vs_plan.specs.declared.target.Target.{Target};
+ghost use Rattle.vs_plan.specs.declared.plans.plan.Flush.{Flush};
+ghost use Rattle.vs_plan.specs.declared.plans.target.Target.{Target};
 ghost use Rattle.vs_plan.specs.Processor.{Moment, PagingEntry, MayFind, MayKeep, IsUpToDate};
 ghost use Rattle.vs_plan.specs.Flushed.{while_stored};
 ghost use Rattle.vs_plan.specs.Lived.{AreButFlags};

@@ -1,13 +1,13 @@
 //! The planner of a range: the way of its first page, and then a run of pages in the table in which that ends.
 ghost use Rattle.std.specs.Prelude.{◌≡◌, ◌≢◌, ◌+◌, ◌-◌, ◌<◌, ◌≤◌, ◌++◌, ◌∷◌, ℕ, [], IfSome, List, MatchResult, Some, cond, slice_index, true};
-ghost use Rattle.vs_types.specs.declared.frame.TheConstants.{FRAME_WORDS};
+ghost use Rattle.vs_types.specs.declared.addresses.frame.TheConstants.{FRAME_WORDS};
 ghost use Rattle.vs_types.specs.Depth.{index_at};
 ghost use Rattle.vs_walk.specs.Memory.{Memory};
 ghost use Rattle.vs_plan.specs.Planner.{AwaitsFrame, HasGiven, IsSpareFor, frames_given, gives_left, sees_left};
 ghost use Rattle.vs_plan.specs.Request.{address_of};
 ghost use Rattle.vs_plan.specs.Shown.{IsShown};
-ghost use Rattle.vs_plan.specs.declared.request.Request.{Request};
-ghost use Rattle.vs_plan.specs.declared.planner.Phase.{Phase};
+ghost use Rattle.vs_plan.specs.declared.plans.request.Request.{Request};
+ghost use Rattle.vs_plan.specs.declared.plans.planner.Phase.{Phase};
 ghost use Rattle.vs_range.specs.Planner.{AwaitsNext, AwaitsRange, HasGivenFor, HasRoom, IsNewRange, IsRanged, IsRangeNext};
 ghost use Rattle.vs_range.specs.Planner.{FollowsLink, IsSameRange, IsSeenNext, TakesPage, are_pages, as_range, map_fault, range_fault, range_gives_left};
 ghost use Rattle.vs_range.specs.Planner.{range_sees, range_sees_left};

@@ -1,6 +1,6 @@
 //! Which words of a table follow one another. None is read twice.
 ghost use Rattle.std.specs.Prelude.{◌≡◌, ◌≢◌, ◌+◌, ◌-◌, ◌<◌, ◌≤◌, ◌⊎◌, ◌%◌, ℕ, IsTrue, IsFalse, slice_index};
-ghost use Rattle.vs_types.specs.declared.frame.TheConstants.{FRAME_WORDS};
+ghost use Rattle.vs_types.specs.declared.addresses.frame.TheConstants.{FRAME_WORDS};
 ghost use Rattle.vs_range.specs.Planner.{IsPageWord, HasOther};
 
 use crate::word::is_page;

@@ -1,11 +1,11 @@
 //! What a table says in which the way of a range's first page ends: a run of pages, or how far none lies.
 ghost use Rattle.std.specs.Prelude.{◌≡◌, ◌≢◌, ◌+◌, ◌*◌, ◌<◌, ◌≤◌, ◌%◌, ◌^◌, ◌⊎◌, ℕ, [], MatchOption, min, slice_index};
-ghost use Rattle.vs_types.specs.declared.frame.TheConstants.{FRAME_WORDS};
+ghost use Rattle.vs_types.specs.declared.addresses.frame.TheConstants.{FRAME_WORDS};
 ghost use Rattle.vs_types.specs.Depth.{index_at};
 ghost use Rattle.vs_types.specs.Page.{bytes_of};
-ghost use Rattle.vs_types.specs.declared.page.Size.{Size};
-ghost use Rattle.vs_plan.specs.declared.request.Request.{Request};
-ghost use Rattle.vs_plan.specs.declared.planner.Phase.{Phase};
+ghost use Rattle.vs_types.specs.declared.addresses.page.Size.{Size};
+ghost use Rattle.vs_plan.specs.declared.plans.request.Request.{Request};
+ghost use Rattle.vs_plan.specs.declared.plans.planner.Phase.{Phase};
 ghost use Rattle.vs_range.specs.Planner.{AwaitsNext, AwaitsRange, HasGivenFor, HasRoom, IsMap, IsMapRoom, IsPageAt, IsSameRange};
 ghost use Rattle.vs_range.specs.Planner.{FollowsLink, IsSeenNext, TakesPage, range_sees, range_sees_left};
 

@@ -4,7 +4,7 @@ use lib.Pow.{pow-add, shr-shr}
 use Rattle.std.proofs.Math.Nat.{div-lt_iff_lt-mul}
 use Rattle.std.proofs.lemmas.Bool.{cases_lt}
 use Rattle.vs_types.specs.Depth.{levels, half_bytes, index_at, IsCanonical}
-use Rattle.vs_types.specs.declared.depth.Depth.{Depth}
+use Rattle.vs_types.specs.declared.addresses.depth.Depth.{Depth}
 use Rattle.vs_types.proofs.Pages.{three_levels, canonical_means}
 use Rattle.vs_walk.proofs.Walks.{few_levels}
 

@@ -3,8 +3,8 @@ use Rattle.std.proofs.Common.{◌≡◌, ℕ, suc, ◌-◌, ◌<◌, ◌≤◌, 
 use Rattle.std.specs.FinMap as finite
 use Rattle.vs_types.specs.Depth.{levels, index_at}
 use Rattle.vs_types.specs.Entry.{meaning, table_word}
-use Rattle.vs_types.specs.declared.depth.Depth.{Depth}
-use Rattle.vs_types.specs.declared.entry.Meaning.TheVariants as entry
+use Rattle.vs_types.specs.declared.addresses.depth.Depth.{Depth}
+use Rattle.vs_types.specs.declared.entries.entry.Meaning.TheVariants as entry
 use Rattle.vs_arena.specs.Store.{zeros}
 use Rattle.vs_arena.proofs.Stores.{IsInUse-insert}
 use Rattle.vs_walk.specs.Memory.{Memory, AreWhole}

@@ -11,8 +11,8 @@ use Rattle.std.proofs.lemmas.List.Elements.{length_all_zip, AllZip-get_or}
 use Rattle.std.proofs.lemmas.Nat.Bits.{same_from_bits}
 use Rattle.vs_types.specs.Depth.{entry_bytes}
 use Rattle.vs_types.specs.Entry.{meaning, is_leaf, has_reserved, rights_of, size_at, table_word, leaf_word}
-use Rattle.vs_types.specs.declared.entry.Meaning.{Meaning}
-use Rattle.vs_types.specs.declared.entry.Meaning.TheVariants as entry
+use Rattle.vs_types.specs.declared.entries.entry.Meaning.{Meaning}
+use Rattle.vs_types.specs.declared.entries.entry.Meaning.TheVariants as entry
 use Rattle.vs_space.specs.Flags.{IsSameButFlags}
 use Rattle.vs_types.specs.Bits.{IsWritten, flags_in, word_for}
 use Rattle.vs_space.specs.Counted.{one_for, nonzero_count}

@@ -1,8 +1,8 @@
 -- Who lent a store its memory doesn't matter to the page table in it.
 use Rattle.std.proofs.Common.{ap}
 use Rattle.vs_types.specs.Space.{Space}
-use Rattle.vs_types.specs.declared.op.Action.{Action}
-use Rattle.vs_types.specs.declared.answer.Answer.{Answer}
+use Rattle.vs_types.specs.declared.requests.op.Action.{Action}
+use Rattle.vs_types.specs.declared.requests.answer.Answer.{Answer}
 use Rattle.vs_arena.specs.Store.{Lenders}
 use Rattle.vs_space.specs.Table.{PageTable, IsTableOf, IsTableStep}
 use Rattle.vs_space.specs.Invariant.{IsPageTable}

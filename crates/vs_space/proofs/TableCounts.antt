@@ -5,8 +5,8 @@ use lib.Pow.{shr-shr}
 use Rattle.std.specs.FinMap as finite
 use Rattle.std.specs.Set.{is_member}
 use Rattle.std.proofs.lemmas.Bool.{cases_lt}
-use Rattle.vs_types.specs.declared.depth.Depth.{Depth}
-use Rattle.vs_types.specs.declared.page.Page.{Page}
+use Rattle.vs_types.specs.declared.addresses.depth.Depth.{Depth}
+use Rattle.vs_types.specs.declared.addresses.page.Page.{Page}
 use Rattle.vs_types.specs.Depth.{levels, table_bytes, IsCanonical}
 use Rattle.vs_types.specs.Page.{level_of, bytes_of, covers, IsPage}
 use Rattle.vs_types.specs.Space.{Space, pages, Holds, IsSpace, page_at, tables_of_level, tables_of_levels, table_count}

@@ -7,12 +7,12 @@ use Rattle.vs_types.specs.Entry.{size_at}
 use Rattle.vs_types.specs.Page.{bytes_of}
 use Rattle.vs_types.specs.Space.{Space, Holds, IsSpace, page_at, table_count}
 use Rattle.vs_types.specs.Step.{step, Stepped}
-use Rattle.vs_types.specs.declared.op.Action.TheVariants.{Unmap}
-use Rattle.vs_types.specs.declared.page.Page.{Page}
-use Rattle.vs_types.specs.declared.page.Rights.{Rights}
-use Rattle.vs_types.specs.declared.page.Size.{Size}
-use Rattle.vs_types.specs.declared.entry.Meaning.TheVariants as entry
-use Rattle.vs_types.specs.declared.answer.Answer.TheVariants as answers
+use Rattle.vs_types.specs.declared.requests.op.Action.TheVariants.{Unmap}
+use Rattle.vs_types.specs.declared.addresses.page.Page.{Page}
+use Rattle.vs_types.specs.declared.addresses.page.Rights.{Rights}
+use Rattle.vs_types.specs.declared.addresses.page.Size.{Size}
+use Rattle.vs_types.specs.declared.entries.entry.Meaning.TheVariants as entry
+use Rattle.vs_types.specs.declared.requests.answer.Answer.TheVariants as answers
 use Rattle.vs_types.proofs.Steps.{step_space}
 use Rattle.vs_types.proofs.Spaces.{remove_cases, put_back}
 use Rattle.vs_walk.specs.Memory.{Memory}

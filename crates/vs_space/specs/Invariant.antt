@@ -3,7 +3,7 @@ use Rattle.std.specs.Prelude.{◌≡◌, ℕ, ◌<◌, ◌^◌}
 use Rattle.std.specs.FinMap as finite
 use Rattle.vs_types.specs.Depth.{levels}
 use Rattle.vs_types.specs.Space.{Space, table_count}
-use Rattle.vs_types.specs.declared.depth.Depth.{Depth}
+use Rattle.vs_types.specs.declared.addresses.depth.Depth.{Depth}
 use Rattle.vs_walk.specs.Memory.{AreWhole}
 use Rattle.vs_space.specs.Held.{Held}
 use Rattle.vs_space.specs.Table.{PageTable, IsTableOf}

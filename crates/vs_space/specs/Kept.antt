@@ -1,6 +1,6 @@
 -- Page tables that are taken apart: what a store keeps of one.
 use Rattle.std.specs.Prelude.{ℕ, []}
-use Rattle.vs_types.specs.declared.depth.Depth.{Depth}
+use Rattle.vs_types.specs.declared.addresses.depth.Depth.{Depth}
 use Rattle.vs_arena.specs.Store.{Store, Notes, Lenders}
 use Rattle.vs_walk.specs.Memory.{AreWhole}
 use Rattle.vs_space.specs.Held.{numbered, AreNumbered}

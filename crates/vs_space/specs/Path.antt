@@ -2,9 +2,9 @@
 use Rattle.std.specs.Prelude.{◌≡◌, ℕ, zero, suc, ◌<◌, ◌≤◌, nat_eq, Option, Some, None, option_map, option_and_then, if◌then◌else◌}
 use Rattle.vs_types.specs.Depth.{index_at}
 use Rattle.vs_types.specs.Entry.{meaning}
-use Rattle.vs_types.specs.declared.frame.TheConstants.{FRAME_WORDS}
-use Rattle.vs_types.specs.declared.entry.Meaning.{Meaning}
-use Rattle.vs_types.specs.declared.entry.Meaning.TheVariants as entry
+use Rattle.vs_types.specs.declared.addresses.frame.TheConstants.{FRAME_WORDS}
+use Rattle.vs_types.specs.declared.entries.entry.Meaning.{Meaning}
+use Rattle.vs_types.specs.declared.entries.entry.Meaning.TheVariants as entry
 use Rattle.vs_walk.specs.Memory.{Memory}
 use Rattle.vs_space.specs.Held.{word_at}
 

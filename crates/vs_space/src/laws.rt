@@ -2,7 +2,7 @@
 //! clauses say what holds of all frames.
 ghost use Rattle.std.specs.Prelude.{ℕ};
 ghost use Rattle.vs_types.specs.Space.{Space};
-ghost use Rattle.vs_types.specs.declared.depth.Depth.{Depth};
+ghost use Rattle.vs_types.specs.declared.addresses.depth.Depth.{Depth};
 ghost use Rattle.vs_arena.specs.Store.{Store, Notes, Lenders};
 ghost use Rattle.vs_space.specs.Flags.{AreSameButFlags};
 ghost use Rattle.vs_space.specs.Kept.{KeepsTable, table_of};

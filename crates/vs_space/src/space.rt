@@ -2,9 +2,9 @@
 ghost use Rattle.std.specs.Prelude.{◌<◌, ◌≤◌, ◌≡◌, ◌≢◌, ◌^◌, ◌+◌, ℕ, Contains, IsTrue, None, slice_index, IfOk, OnErr};
 ghost use Rattle.vs_types.specs.declared.limits.TheConstants.{MOST_LEVELS};
 ghost use Rattle.std.specs.FinMap as finite;
-ghost use Rattle.vs_types.specs.declared.answer.Answer.{Answer};
-ghost use Rattle.vs_types.specs.declared.entry.Meaning.{Meaning};
-ghost use Rattle.vs_types.specs.declared.op.Action.{Action};
+ghost use Rattle.vs_types.specs.declared.requests.answer.Answer.{Answer};
+ghost use Rattle.vs_types.specs.declared.entries.entry.Meaning.{Meaning};
+ghost use Rattle.vs_types.specs.declared.requests.op.Action.{Action};
 ghost use Rattle.vs_types.specs.Depth.{IsCanonical};
 ghost use Rattle.vs_types.specs.Entry.{leaf_word, meaning};
 ghost use Rattle.vs_types.specs.Operation.{IsAction, IsBase};

@@ -2,14 +2,14 @@
 ghost use Rattle.std.specs.Prelude.{ℕ, ◌≢◌, Some, slice_index, ◌≡◌, ◌<◌, ◌≤◌, ◌^◌, ◌+◌, ◌-◌, IfSome, IfNone, IsSome, IsTrue, IsFalse, option_copied};
 ghost use Rattle.std.specs.FinMap as finite;
 ghost use Rattle.vs_arena.specs.Store.{zeros, IsInUse};
-ghost use Rattle.vs_types.specs.declared.depth.Depth.{Depth};
-ghost use Rattle.vs_types.specs.declared.frame.TheConstants.{FRAME_WORDS};
+ghost use Rattle.vs_types.specs.declared.addresses.depth.Depth.{Depth};
+ghost use Rattle.vs_types.specs.declared.addresses.frame.TheConstants.{FRAME_WORDS};
 ghost use Rattle.vs_types.specs.declared.limits.TheConstants.{MOST_LEVELS, TABLES};
 ghost use Rattle.vs_types.specs.Depth.{levels, index_at, IsCanonical};
 ghost use Rattle.vs_walk.specs.Walk.{walk};
 ghost use Rattle.vs_walk.specs.declared.walk.Walk.{Walk};
 ghost use Rattle.vs_types.specs.Entry.{meaning};
-ghost use Rattle.vs_types.specs.declared.entry.Meaning.{Meaning};
+ghost use Rattle.vs_types.specs.declared.entries.entry.Meaning.{Meaning};
 ghost use Rattle.vs_space.specs.inside.Prune.{IsCut, IsPruned};
 ghost use Rattle.vs_space.specs.Held.{numbered, held_in, word_at, with_word, AreNumbered};
 ghost use Rattle.vs_space.specs.Counted.{IsCounted};

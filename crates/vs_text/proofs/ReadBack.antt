@@ -9,18 +9,18 @@ use Rattle.std.proofs.lemmas.Bool.Decides.{nat_tests}
 use Rattle.std.proofs.lemmas.Fmt.{digits_is_IsNumeral}
 use Rattle.std.proofs.Math.Nat.{pow-suc, pow-zero}
 use Rattle.vs_types.specs.Query.{IsQuery}
-use Rattle.vs_types.specs.declared.access.Access.{Access}
-use Rattle.vs_types.specs.declared.access.Access.TheVariants.{Read}
-use Rattle.vs_types.specs.declared.access.Mode.{Mode}
-use Rattle.vs_types.specs.declared.access.Mode.TheVariants.{Supervisor, User}
-use Rattle.vs_types.specs.declared.depth.Depth.{Depth}
-use Rattle.vs_types.specs.declared.op.Action.TheVariants.{Map, Unmap, Protect}
-use Rattle.vs_types.specs.declared.page.Page.{Page}
-use Rattle.vs_types.specs.declared.page.Rights.{Rights}
-use Rattle.vs_types.specs.declared.page.Size.{Size}
-use Rattle.vs_types.specs.declared.page.Size.TheVariants.{K4}
-use Rattle.vs_types.specs.declared.request.Query.{Query}
-use Rattle.vs_types.specs.declared.request.Query.TheVariants as queries
+use Rattle.vs_types.specs.declared.addresses.access.Access.{Access}
+use Rattle.vs_types.specs.declared.addresses.access.Access.TheVariants.{Read}
+use Rattle.vs_types.specs.declared.addresses.access.Mode.{Mode}
+use Rattle.vs_types.specs.declared.addresses.access.Mode.TheVariants.{Supervisor, User}
+use Rattle.vs_types.specs.declared.addresses.depth.Depth.{Depth}
+use Rattle.vs_types.specs.declared.requests.op.Action.TheVariants.{Map, Unmap, Protect}
+use Rattle.vs_types.specs.declared.addresses.page.Page.{Page}
+use Rattle.vs_types.specs.declared.addresses.page.Rights.{Rights}
+use Rattle.vs_types.specs.declared.addresses.page.Size.{Size}
+use Rattle.vs_types.specs.declared.addresses.page.Size.TheVariants.{K4}
+use Rattle.vs_types.specs.declared.requests.request.Query.{Query}
+use Rattle.vs_types.specs.declared.requests.request.Query.TheVariants as queries
 use Rattle.vs_types.proofs.Pages.{canonical_fits}
 use Rattle.vs_text.specs.Requests.{request_text, SpellsQuery}
 use Rattle.vs_text.specs.Words.{access_text, hexadecimal, mark, mode_text, rights_text, size_text, space, words, SpellsAddress}

@@ -2,8 +2,8 @@
 
 ghost use Rattle.std.specs.Prelude.{◌≡◌, ℕ, List};
 ghost use Rattle.vs_types.specs.Query.{IsQuery};
-ghost use Rattle.vs_types.specs.declared.depth.Depth.{Depth};
-ghost use Rattle.vs_types.specs.declared.request.Query.{Query};
+ghost use Rattle.vs_types.specs.declared.addresses.depth.Depth.{Depth};
+ghost use Rattle.vs_types.specs.declared.requests.request.Query.{Query};
 ghost use Rattle.vs_text.specs.Requests.{request_text, SpellsQuery};
 ghost use Rattle.vs_text.specs.Words.{words};
 

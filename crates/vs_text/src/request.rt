@@ -1,6 +1,6 @@
 //! Requests in words.
 ghost use Rattle.std.specs.Prelude.{◌≡◌, MatchResult, None, Some};
-ghost use Rattle.vs_types.specs.declared.request.Query.TheVariants.{Update};
+ghost use Rattle.vs_types.specs.declared.requests.request.Query.TheVariants.{Update};
 ghost use Rattle.vs_types.specs.Finds.{Finds};
 ghost use Rattle.vs_text.specs.Requests.{SpellsAccess, SpellsOne, SpellsPage, SpellsQuery, SpellsRights};
 ghost use Rattle.vs_text.specs.Words.{texts};

@@ -2,11 +2,11 @@
 use Rattle.std.proofs.Common.{◌≡◌, ℕ, ◌/◌, ◌%◌, zero, suc, Bool, true, false, ◌&&◌, IsTrue, ◌↔◌, refl, ap, sym, ◌∙◌}
 use Rattle.vs_types.specs.Access.{allows, fault_code}
 use Rattle.vs_types.specs.Page.{intersection}
-use Rattle.vs_types.specs.declared.page.Rights.{Rights}
-use Rattle.vs_types.specs.declared.access.Access.{Access}
-use Rattle.vs_types.specs.declared.access.Access.TheVariants.{Read, Write, Fetch}
-use Rattle.vs_types.specs.declared.access.Mode.{Mode}
-use Rattle.vs_types.specs.declared.access.Mode.TheVariants.{Supervisor, User}
+use Rattle.vs_types.specs.declared.addresses.page.Rights.{Rights}
+use Rattle.vs_types.specs.declared.addresses.access.Access.{Access}
+use Rattle.vs_types.specs.declared.addresses.access.Access.TheVariants.{Read, Write, Fetch}
+use Rattle.vs_types.specs.declared.addresses.access.Mode.{Mode}
+use Rattle.vs_types.specs.declared.addresses.access.Mode.TheVariants.{Supervisor, User}
 
 -- the two parts of the first and of the second, in another order
 pairs : (p q r s : Bool) → IsTrue ((p && q) && (r && s)) ↔ (IsTrue (p && r) × IsTrue (q && s))

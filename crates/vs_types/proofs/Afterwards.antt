@@ -2,8 +2,8 @@
 use Rattle.std.proofs.Common.{◌≡◌, ℕ, zero, suc, ◌+◌, List, [], ◌∷◌, ◌++◌, take, slice_get, Option, Some, None, refl, ap, ◌∙◌, add-one}
 use Rattle.vs_types.specs.Space.{Space, no_pages}
 use Rattle.vs_types.specs.Step.{step, after_all, after}
-use Rattle.vs_types.specs.declared.depth.Depth.{Depth}
-use Rattle.vs_types.specs.declared.op.Action.{Action}
+use Rattle.vs_types.specs.declared.addresses.depth.Depth.{Depth}
+use Rattle.vs_types.specs.declared.requests.op.Action.{Action}
 
 pub after_all-append : (depth : Depth) (limit : ℕ) (space : Space) (xs ys : List Action)
     → after_all depth limit space (xs ++ ys) ≡ after_all depth limit (after_all depth limit space xs) ys

@@ -1,14 +1,14 @@
 -- When two answers are the same, as `==` says.
 use Rattle.std.proofs.Common.{◌≡◌, ℕ, Bool, true, false, ◌&&◌, ◌↔◌, eqb, refl, sym, ap, subst, ◌∙◌}
 use Rattle.std.proofs.lemmas.Bool.{false≢true, eq-eqb, eqb-true, and_parts, and_from}
-use Rattle.vs_types.specs.declared.page.Size.{Size}
-use Rattle.vs_types.specs.declared.page.Size.TheVariants.{K4, M2, G1}
-use Rattle.vs_types.specs.declared.page.Rights.{Rights}
-use Rattle.vs_types.specs.declared.answer.Answer.{Answer}
-use Rattle.vs_types.specs.declared.answer.Answer.TheVariants.{Done, Overlap, Full, Removed, NotMapped, Inside, Changed, Mapped, Allowed, Fault}
-use Rattle.vs_types.specs.contracts.page.SizePartialEq.TheImpl as sizes
-use Rattle.vs_types.specs.contracts.page.RightsPartialEq.TheImpl as rights
-use Rattle.vs_types.specs.contracts.answer.AnswerPartialEq.TheImpl as answers
+use Rattle.vs_types.specs.declared.addresses.page.Size.{Size}
+use Rattle.vs_types.specs.declared.addresses.page.Size.TheVariants.{K4, M2, G1}
+use Rattle.vs_types.specs.declared.addresses.page.Rights.{Rights}
+use Rattle.vs_types.specs.declared.requests.answer.Answer.{Answer}
+use Rattle.vs_types.specs.declared.requests.answer.Answer.TheVariants.{Done, Overlap, Full, Removed, NotMapped, Inside, Changed, Mapped, Allowed, Fault}
+use Rattle.vs_types.specs.contracts.addresses.page.SizePartialEq.TheImpl as sizes
+use Rattle.vs_types.specs.contracts.addresses.page.RightsPartialEq.TheImpl as rights
+use Rattle.vs_types.specs.contracts.requests.answer.AnswerPartialEq.TheImpl as answers
 
 pub same_size : (s t : Size) → sizes.ghosts.eq s t ≡ true → s ≡ t
 same_size K4 K4 e = refl

@@ -5,10 +5,10 @@ use Rattle.std.specs.Int.{bit_at}
 use Rattle.vs_types.specs.Depth.{entry_bytes}
 use Rattle.vs_types.specs.Page.{level_of, bytes_of}
 use Rattle.vs_types.specs.Entry.{meaning, is_leaf, has_reserved, rights_of, leaf_word}
-use Rattle.vs_types.specs.declared.page.Rights.{Rights}
-use Rattle.vs_types.specs.declared.page.Size.{Size}
-use Rattle.vs_types.specs.declared.page.Size.TheVariants.{K4}
-use Rattle.vs_types.specs.declared.entry.Meaning.TheVariants as entry
+use Rattle.vs_types.specs.declared.addresses.page.Rights.{Rights}
+use Rattle.vs_types.specs.declared.addresses.page.Size.{Size}
+use Rattle.vs_types.specs.declared.addresses.page.Size.TheVariants.{K4}
+use Rattle.vs_types.specs.declared.entries.entry.Meaning.TheVariants as entry
 use Rattle.vs_types.proofs.Pages.{level_some}
 use Rattle.vs_types.proofs.Placed.{means_with, said}
 use Rattle.vs_types.specs.Bits.{AreBits, placed, with_rights}

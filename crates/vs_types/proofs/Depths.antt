@@ -4,13 +4,13 @@ use Rattle.vs_types.specs.Depth.{IsCanonical}
 use Rattle.vs_types.specs.LogEntry.{IsLogEntry}
 use Rattle.vs_types.specs.Operation.{IsAction}
 use Rattle.vs_types.specs.Query.{IsQuery}
-use Rattle.vs_types.specs.declared.depth.Depth.{Depth}
-use Rattle.vs_types.specs.declared.depth.Depth.TheVariants.{Four, Five}
+use Rattle.vs_types.specs.declared.addresses.depth.Depth.{Depth}
+use Rattle.vs_types.specs.declared.addresses.depth.Depth.TheVariants.{Four, Five}
 use Rattle.vs_types.specs.declared.log_entry.LogEntry.{LogEntry}
-use Rattle.vs_types.specs.declared.op.Action.{Action}
-use Rattle.vs_types.specs.declared.op.Action.TheVariants.{Map, Unmap, Protect}
-use Rattle.vs_types.specs.declared.request.Query.{Query}
-use Rattle.vs_types.specs.declared.request.Query.TheVariants.{Update, Resolve, Access}
+use Rattle.vs_types.specs.declared.requests.op.Action.{Action}
+use Rattle.vs_types.specs.declared.requests.op.Action.TheVariants.{Map, Unmap, Protect}
+use Rattle.vs_types.specs.declared.requests.request.Query.{Query}
+use Rattle.vs_types.specs.declared.requests.request.Query.TheVariants.{Update, Resolve, Access}
 use Rattle.vs_types.proofs.Pages.{canonical_means}
 
 pub canonical_in_five : (address : ℕ) → IsCanonical Four address → IsCanonical Five address

@@ -2,10 +2,10 @@
 use Rattle.std.proofs.Common.{◌≡◌, ℕ, ◌%◌, ◌^◌, ◌<◌, Bool, true, false, arith}
 use Rattle.vs_types.specs.Page.{level_of, bytes_of}
 use Rattle.vs_types.specs.Entry.{meaning, leaf_word}
-use Rattle.vs_types.specs.declared.page.Rights.{Rights}
-use Rattle.vs_types.specs.declared.page.Size.{Size}
-use Rattle.vs_types.specs.declared.page.Size.TheVariants.{K4, M2, G1}
-use Rattle.vs_types.specs.declared.entry.Meaning.TheVariants.{Leaf}
+use Rattle.vs_types.specs.declared.addresses.page.Rights.{Rights}
+use Rattle.vs_types.specs.declared.addresses.page.Size.{Size}
+use Rattle.vs_types.specs.declared.addresses.page.Size.TheVariants.{K4, M2, G1}
+use Rattle.vs_types.specs.declared.entries.entry.Meaning.TheVariants.{Leaf}
 
 leaf_reads_bits : (size : Size) (phys : ℕ) (w u x : Bool) → phys % bytes_of size ≡ 0 → phys < 2 ^ 52
     → meaning (level_of size) (leaf_word size phys (record { write = w; user = u; exec = x })) ≡ Leaf phys (record { write = w; user = u; exec = x })

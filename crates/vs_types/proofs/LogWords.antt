@@ -4,16 +4,16 @@ use Rattle.vs_types.specs.Codes.{size_code, rights_code}
 use Rattle.vs_types.specs.Operation.{IsAction, IsBase, IsSomeAction}
 use Rattle.vs_types.specs.Fields.{request_fields, HasFields}
 use Rattle.vs_types.specs.LogEntry.{SpellsEntry}
-use Rattle.vs_types.specs.declared.fields.RequestFields.{RequestFields}
-use Rattle.vs_types.specs.declared.request.Query.TheVariants.{Update}
-use Rattle.vs_types.specs.declared.request.Query.{Query}
+use Rattle.vs_types.specs.declared.requests.fields.RequestFields.{RequestFields}
+use Rattle.vs_types.specs.declared.requests.request.Query.TheVariants.{Update}
+use Rattle.vs_types.specs.declared.requests.request.Query.{Query}
 use Rattle.vs_types.specs.declared.limits.TheConstants.{CALLS}
-use Rattle.vs_types.specs.declared.depth.Depth.{Depth}
-use Rattle.vs_types.specs.declared.page.Rights.{Rights}
-use Rattle.vs_types.specs.declared.page.Size.{Size}
-use Rattle.vs_types.specs.declared.page.Size.TheVariants.{K4}
-use Rattle.vs_types.specs.declared.op.Action.{Action}
-use Rattle.vs_types.specs.declared.op.Action.TheVariants.{Map, Unmap, Protect}
+use Rattle.vs_types.specs.declared.addresses.depth.Depth.{Depth}
+use Rattle.vs_types.specs.declared.addresses.page.Rights.{Rights}
+use Rattle.vs_types.specs.declared.addresses.page.Size.{Size}
+use Rattle.vs_types.specs.declared.addresses.page.Size.TheVariants.{K4}
+use Rattle.vs_types.specs.declared.requests.op.Action.{Action}
+use Rattle.vs_types.specs.declared.requests.op.Action.TheVariants.{Map, Unmap, Protect}
 use Rattle.vs_types.proofs.Pages.{canonical_fits}
 use Rattle.vs_types.specs.declared.log_entry.LogEntry.{LogEntry}
 

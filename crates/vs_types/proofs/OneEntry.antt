@@ -4,15 +4,15 @@ use Rattle.vs_types.specs.Codes.{size_code, rights_code}
 use Rattle.vs_types.specs.Fields.{request_fields}
 use Rattle.vs_types.specs.LogEntry.{IsLogEntry, SpellsEntry, log_words}
 use Rattle.vs_types.specs.inside.Telling.{action_in, entry_in, is_one, rights_in, size_in}
-use Rattle.vs_types.specs.declared.depth.Depth.{Depth}
-use Rattle.vs_types.specs.declared.fields.RequestFields.{RequestFields}
+use Rattle.vs_types.specs.declared.addresses.depth.Depth.{Depth}
+use Rattle.vs_types.specs.declared.requests.fields.RequestFields.{RequestFields}
 use Rattle.vs_types.specs.declared.log_entry.LogEntry.{LogEntry}
-use Rattle.vs_types.specs.declared.op.Action.{Action}
-use Rattle.vs_types.specs.declared.op.Action.TheVariants.{Map, Unmap, Protect}
-use Rattle.vs_types.specs.declared.page.Rights.{Rights}
-use Rattle.vs_types.specs.declared.page.Size.{Size}
-use Rattle.vs_types.specs.declared.page.Size.TheVariants.{K4}
-use Rattle.vs_types.specs.declared.request.Query.TheVariants.{Update}
+use Rattle.vs_types.specs.declared.requests.op.Action.{Action}
+use Rattle.vs_types.specs.declared.requests.op.Action.TheVariants.{Map, Unmap, Protect}
+use Rattle.vs_types.specs.declared.addresses.page.Rights.{Rights}
+use Rattle.vs_types.specs.declared.addresses.page.Size.{Size}
+use Rattle.vs_types.specs.declared.addresses.page.Size.TheVariants.{K4}
+use Rattle.vs_types.specs.declared.requests.request.Query.TheVariants.{Update}
 use Rattle.vs_types.proofs.LogWords.{fields_at, finds_again}
 
 pub size_back : (size : Size) → size_in (size_code size) ≡ size

@@ -2,8 +2,8 @@
 use Rattle.std.proofs.Common.{◌≡◌, ℕ, ◌<◌, ◌≤◌, true, List, [], ◌∷◌, min, Some, None, option_map, nat_eq, ⊎_elim, refl, sym, ap, ◌∙◌, subst, arith}
 use Rattle.std.proofs.lemmas.Bool.{cases_lt}
 use Rattle.std.specs.Set.{is_member}
-use Rattle.vs_types.specs.declared.depth.Depth.{Depth}
-use Rattle.vs_types.specs.declared.page.Page.{Page}
+use Rattle.vs_types.specs.declared.addresses.depth.Depth.{Depth}
+use Rattle.vs_types.specs.declared.addresses.page.Page.{Page}
 use Rattle.vs_types.specs.Page.{overlaps}
 use Rattle.vs_types.specs.Space.{Space, pages, Holds, IsSpace, page_at, least, least_overlapped}
 use Rattle.vs_types.proofs.Pages.{bytes_positive, covers_means, overlaps_means}

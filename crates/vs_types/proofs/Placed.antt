@@ -5,9 +5,9 @@ use Rattle.std.specs.Prelude.{not, if◌then◌else◌, ◌==◌, ◌||◌, ◌&
 use Rattle.std.specs.Int.{bit_at}
 use Rattle.vs_types.specs.Depth.{entry_bytes}
 use Rattle.vs_types.specs.Entry.{meaning, is_leaf, has_reserved, rights_of}
-use Rattle.vs_types.specs.declared.page.Rights.{Rights}
-use Rattle.vs_types.specs.declared.entry.Meaning.{Meaning}
-use Rattle.vs_types.specs.declared.entry.Meaning.TheVariants as entry
+use Rattle.vs_types.specs.declared.addresses.page.Rights.{Rights}
+use Rattle.vs_types.specs.declared.entries.entry.Meaning.{Meaning}
+use Rattle.vs_types.specs.declared.entries.entry.Meaning.TheVariants as entry
 
 abbrev pub said : Bool → Bool → Bool → Rights → ℕ → ℕ → Meaning
 said present reserved leaf rights address number =

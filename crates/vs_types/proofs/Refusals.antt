@@ -3,11 +3,11 @@ use Rattle.std.proofs.Common.{◌≡◌, ◌≢◌, ℕ, ◌<◌, ◌≤◌, min
 use Rattle.std.proofs.Common.{arith, leb-false}
 use Rattle.std.specs.FinMap as finite
 use Rattle.std.proofs.lemmas.Bool.{cases_eq}
-use Rattle.vs_types.specs.declared.depth.Depth.{Depth}
-use Rattle.vs_types.specs.declared.page.Page.{Page}
-use Rattle.vs_types.specs.declared.page.Rights.{Rights}
-use Rattle.vs_types.specs.declared.op.Action.TheVariants.{Map, Unmap, Protect}
-use Rattle.vs_types.specs.declared.answer.Answer.TheVariants.{Overlap, Full, NotMapped, Inside}
+use Rattle.vs_types.specs.declared.addresses.depth.Depth.{Depth}
+use Rattle.vs_types.specs.declared.addresses.page.Page.{Page}
+use Rattle.vs_types.specs.declared.addresses.page.Rights.{Rights}
+use Rattle.vs_types.specs.declared.requests.op.Action.TheVariants.{Map, Unmap, Protect}
+use Rattle.vs_types.specs.declared.requests.answer.Answer.TheVariants.{Overlap, Full, NotMapped, Inside}
 use Rattle.vs_types.specs.Laws.{as_in, IsLeastOverlapped, IsInside}
 use Rattle.vs_types.specs.Page.{overlaps}
 use Rattle.vs_types.specs.Space.{Space, pages, IsSpace, page_at, least, least_overlapped, table_count}

@@ -7,14 +7,14 @@ use Rattle.std.specs.Cmp.{nat_cmp_total}
 use Rattle.std.specs.Ordering.{eq_by_cmp, is_lt}
 use Rattle.std.specs.FinMap as finite
 use Rattle.std.specs.FinMap.Entries as entries
-use Rattle.vs_types.specs.declared.depth.Depth.{Depth}
-use Rattle.vs_types.specs.declared.page.Page.{Page}
+use Rattle.vs_types.specs.declared.addresses.depth.Depth.{Depth}
+use Rattle.vs_types.specs.declared.addresses.page.Page.{Page}
 use Rattle.vs_types.specs.Page.{covers, IsPage}
 use Rattle.vs_types.specs.Space.{Space, no_pages, pages, Holds, IsSpace, page_at}
 use Rattle.vs_types.specs.Step.{look}
 use Rattle.vs_types.specs.Laws.{as_in}
-use Rattle.vs_types.specs.declared.answer.Answer.TheVariants.{NotMapped}
-use Rattle.vs_types.specs.declared.depth.Depth.TheVariants.{Four}
+use Rattle.vs_types.specs.declared.requests.answer.Answer.TheVariants.{NotMapped}
+use Rattle.vs_types.specs.declared.addresses.depth.Depth.TheVariants.{Four}
 use Rattle.vs_types.proofs.Lists.{Contains-head, Contains-tail, Contains-cases, not_in_nil, find_found, find_nothing}
 use Rattle.vs_types.proofs.Maps.{get-insert, get-insert_same, get-insert_other, get-remove_same, get-remove_other}
 

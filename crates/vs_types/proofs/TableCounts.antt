@@ -6,8 +6,8 @@ use Rattle.std.specs.FinMap as finite
 use Rattle.std.specs.Set.{is_member}
 use Rattle.std.proofs.lemmas.Bool.{eq-eqb, eqb-true, or_left, or_right, or_cases}
 use Rattle.std.proofs.lemmas.Bool.Decides.{nat_tests}
-use Rattle.vs_types.specs.declared.depth.Depth.{Depth}
-use Rattle.vs_types.specs.declared.page.Page.{Page}
+use Rattle.vs_types.specs.declared.addresses.depth.Depth.{Depth}
+use Rattle.vs_types.specs.declared.addresses.page.Page.{Page}
 use Rattle.vs_types.specs.Depth.{levels, table_bytes}
 use Rattle.vs_types.specs.Page.{level_of, bytes_of}
 use Rattle.vs_types.specs.Space.{Space, no_pages, pages, Holds, IsSpace, tables_of_level, tables_of_levels, table_count}

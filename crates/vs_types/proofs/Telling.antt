@@ -2,8 +2,8 @@
 use Rattle.std.proofs.Common.{◌≡◌, ◌≤◌, ℕ, zero, suc, nat_eq, not, ap, refl, arith}
 use Rattle.std.proofs.Math.Dec.{eqb-suc-zero}
 use Rattle.vs_types.specs.inside.Telling.{action_in, is_one, rights_in, size_in}
-use Rattle.vs_types.specs.declared.op.Action.TheVariants.{Protect}
-use Rattle.vs_types.specs.declared.page.Size.TheVariants.{G1}
+use Rattle.vs_types.specs.declared.requests.op.Action.TheVariants.{Protect}
+use Rattle.vs_types.specs.declared.addresses.page.Size.TheVariants.{G1}
 
 pub size_above : (n : ℕ) → 2 ≤ n → G1 ≡ size_in n
 unfolding size_in

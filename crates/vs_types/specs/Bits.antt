@@ -5,12 +5,12 @@ use Rattle.std.specs.Prelude.{◌≡◌, ℕ, ◌+◌, ◌-◌, ◌*◌, ◌/◌
 use Rattle.std.specs.Int.{bit_at}
 use Rattle.vs_types.specs.Entry.{is_leaf, leaf_word, meaning, size_at, table_word}
 use Rattle.vs_types.specs.Page.{bytes_of}
-use Rattle.vs_types.specs.declared.entry.Meaning.{Meaning}
-use Rattle.vs_types.specs.declared.entry.Meaning.TheVariants as entry
-use Rattle.vs_types.specs.declared.page.Page.{Page}
-use Rattle.vs_types.specs.declared.page.Rights.{Rights}
-use Rattle.vs_types.specs.declared.page.Size.{Size}
-use Rattle.vs_types.specs.declared.page.Size.TheVariants.{K4, M2, G1}
+use Rattle.vs_types.specs.declared.entries.entry.Meaning.{Meaning}
+use Rattle.vs_types.specs.declared.entries.entry.Meaning.TheVariants as entry
+use Rattle.vs_types.specs.declared.addresses.page.Page.{Page}
+use Rattle.vs_types.specs.declared.addresses.page.Rights.{Rights}
+use Rattle.vs_types.specs.declared.addresses.page.Size.{Size}
+use Rattle.vs_types.specs.declared.addresses.page.Size.TheVariants.{K4, M2, G1}
 
 -- no bit is set but these
 pub record AreBits (bits : ℕ) : Type 0 where

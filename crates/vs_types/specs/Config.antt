@@ -1,9 +1,9 @@
 -- What a configuration is, and what is wrong with numbers that are none.
 use Rattle.std.specs.Prelude.{ℕ, ◌≤◌, ◌||◌, nat_lt, Option, Some, None, if◌then◌else◌}
 use Rattle.vs_types.specs.declared.limits.TheConstants.{REPLICAS, THREADS, TABLES}
-use Rattle.vs_types.specs.declared.depth.Depth.{Depth}
-use Rattle.vs_types.specs.declared.config.BadConfig.{BadConfig}
-use Rattle.vs_types.specs.declared.config.BadConfig.TheVariants.{Replicas, Threads, Tables}
+use Rattle.vs_types.specs.declared.addresses.depth.Depth.{Depth}
+use Rattle.vs_types.specs.declared.addresses.config.BadConfig.{BadConfig}
+use Rattle.vs_types.specs.declared.addresses.config.BadConfig.TheVariants.{Replicas, Threads, Tables}
 
 -- the parts of a configuration
 pub record Layout : Type 0 where

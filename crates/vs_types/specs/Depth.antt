@@ -1,8 +1,8 @@
 -- How addresses are cut into levels (Intel SDM volume 3A, chapter "Paging": linear addresses, canonicality, and the
 -- bits that index the table of each level).
 use Rattle.std.specs.Prelude.{ℕ, ◌+◌, ◌-◌, ◌*◌, ◌/◌, ◌%◌, ◌^◌, Bool, ◌||◌, ◌&&◌, nat_lt, nat_le, IsTrue}
-use Rattle.vs_types.specs.declared.depth.Depth.{Depth}
-use Rattle.vs_types.specs.declared.depth.Depth.TheVariants.{Four, Five}
+use Rattle.vs_types.specs.declared.addresses.depth.Depth.{Depth}
+use Rattle.vs_types.specs.declared.addresses.depth.Depth.TheVariants.{Four, Five}
 
 -- how many levels of tables a translation goes through; the root is the table of the highest
 abbrev pub levels : Depth → ℕ

@@ -3,15 +3,15 @@ use Rattle.std.specs.Prelude.{ℕ, List, [], ◌∷◌, true, false}
 use Rattle.vs_types.specs.Entry.{all_rights}
 use Rattle.vs_types.specs.Space.{Space, no_pages, table_count}
 use Rattle.vs_types.specs.Step.{step, after_all, look, allow}
-use Rattle.vs_types.specs.declared.access.Mode.{Mode}
-use Rattle.vs_types.specs.declared.access.Access.{Access}
-use Rattle.vs_types.specs.declared.depth.Depth.{Depth}
-use Rattle.vs_types.specs.declared.page.Rights.{Rights}
-use Rattle.vs_types.specs.declared.page.Size.{Size}
-use Rattle.vs_types.specs.declared.page.Size.TheVariants.{K4, M2, G1}
-use Rattle.vs_types.specs.declared.op.Action.{Action}
-use Rattle.vs_types.specs.declared.op.Action.TheVariants.{Map, Unmap, Protect}
-use Rattle.vs_types.specs.declared.answer.Answer.{Answer}
+use Rattle.vs_types.specs.declared.addresses.access.Mode.{Mode}
+use Rattle.vs_types.specs.declared.addresses.access.Access.{Access}
+use Rattle.vs_types.specs.declared.addresses.depth.Depth.{Depth}
+use Rattle.vs_types.specs.declared.addresses.page.Rights.{Rights}
+use Rattle.vs_types.specs.declared.addresses.page.Size.{Size}
+use Rattle.vs_types.specs.declared.addresses.page.Size.TheVariants.{K4, M2, G1}
+use Rattle.vs_types.specs.declared.requests.op.Action.{Action}
+use Rattle.vs_types.specs.declared.requests.op.Action.TheVariants.{Map, Unmap, Protect}
+use Rattle.vs_types.specs.declared.requests.answer.Answer.{Answer}
 
 -- what operations are answered in turn, from this space on
 abbrev pub answers_from : Depth → ℕ → Space → List Action → List Answer

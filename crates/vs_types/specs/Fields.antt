@@ -2,11 +2,11 @@
 use Rattle.std.specs.Prelude.{◌≡◌}
 use Rattle.vs_types.specs.Codes.{kind_code, size_code, rights_code, mode_code, access_code}
 use Rattle.vs_types.specs.Query.{IsQuery}
-use Rattle.vs_types.specs.declared.depth.Depth.{Depth}
-use Rattle.vs_types.specs.declared.op.Action.TheVariants.{Map, Unmap, Protect}
-use Rattle.vs_types.specs.declared.request.Query.{Query}
-use Rattle.vs_types.specs.declared.request.Query.TheVariants.{Update, Resolve, Access}
-use Rattle.vs_types.specs.declared.fields.RequestFields.{RequestFields}
+use Rattle.vs_types.specs.declared.addresses.depth.Depth.{Depth}
+use Rattle.vs_types.specs.declared.requests.op.Action.TheVariants.{Map, Unmap, Protect}
+use Rattle.vs_types.specs.declared.requests.request.Query.{Query}
+use Rattle.vs_types.specs.declared.requests.request.Query.TheVariants.{Update, Resolve, Access}
+use Rattle.vs_types.specs.declared.requests.fields.RequestFields.{RequestFields}
 
 -- the fields of a request: the code of its kind, and what the kind uses; the other fields are 0
 abbrev pub request_fields : Query → RequestFields

@@ -2,13 +2,13 @@
 use Rattle.std.specs.Prelude.{◌≡◌, ℕ, ◌+◌, ◌%◌, not, ◌==◌, nat_lt, Option, Some, None, if◌then◌else◌}
 use Rattle.vs_types.specs.Depth.{is_canonical, IsCanonical}
 use Rattle.vs_types.specs.Page.{bytes_of, IsPage}
-use Rattle.vs_types.specs.declared.depth.Depth.{Depth}
-use Rattle.vs_types.specs.declared.page.Page.{Page}
-use Rattle.vs_types.specs.declared.page.TheConstants.Page.{PHYS_END}
-use Rattle.vs_types.specs.declared.op.Action.{Action}
-use Rattle.vs_types.specs.declared.op.Action.TheVariants.{Map, Unmap, Protect}
-use Rattle.vs_types.specs.declared.op.BadOp.{BadOp}
-use Rattle.vs_types.specs.declared.op.BadOp.TheVariants.{NotCanonical, Unaligned, PhysUnaligned, PhysRange}
+use Rattle.vs_types.specs.declared.addresses.depth.Depth.{Depth}
+use Rattle.vs_types.specs.declared.addresses.page.Page.{Page}
+use Rattle.vs_types.specs.declared.addresses.page.TheConstants.Page.{PHYS_END}
+use Rattle.vs_types.specs.declared.requests.op.Action.{Action}
+use Rattle.vs_types.specs.declared.requests.op.Action.TheVariants.{Map, Unmap, Protect}
+use Rattle.vs_types.specs.declared.requests.op.BadOp.{BadOp}
+use Rattle.vs_types.specs.declared.requests.op.BadOp.TheVariants.{NotCanonical, Unaligned, PhysUnaligned, PhysRange}
 
 -- an address at which a page can begin
 pub record IsBase (depth : Depth) (base : ℕ) : Type 0 where

@@ -4,11 +4,11 @@ use Rattle.vs_types.specs.Config.{Layout}
 use Rattle.vs_types.specs.Depth.{is_canonical, IsCanonical}
 use Rattle.vs_types.specs.Operation.{IsAction, action_fault}
 use Rattle.vs_types.specs.declared.limits.TheConstants.{LOG_PLACES}
-use Rattle.vs_types.specs.declared.depth.Depth.{Depth}
-use Rattle.vs_types.specs.declared.request.Query.{Query}
-use Rattle.vs_types.specs.declared.request.Query.TheVariants.{Update, Resolve, Access}
-use Rattle.vs_types.specs.declared.op.BadOp.{BadOp}
-use Rattle.vs_types.specs.declared.op.BadOp.TheVariants.{NotCanonical}
+use Rattle.vs_types.specs.declared.addresses.depth.Depth.{Depth}
+use Rattle.vs_types.specs.declared.requests.request.Query.{Query}
+use Rattle.vs_types.specs.declared.requests.request.Query.TheVariants.{Update, Resolve, Access}
+use Rattle.vs_types.specs.declared.requests.op.BadOp.{BadOp}
+use Rattle.vs_types.specs.declared.requests.op.BadOp.TheVariants.{NotCanonical}
 
 -- a request that is well formed at this depth
 abbrev pub IsQuery : Depth → Query → Type 0

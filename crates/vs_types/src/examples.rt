@@ -1,15 +1,15 @@
 //! Worked examples: what the definitions give at numbers. The prover computes each.
 
 ghost use Rattle.std.specs.Prelude.{◌≡◌, ℕ, List, [], ◌∷◌, take, Some, true, false};
-ghost use Rattle.vs_types.specs.declared.answer.Answer.TheVariants.{Allowed, Changed, Done, Fault, Full, Inside, Mapped, NotMapped, Overlap, Removed};
-ghost use Rattle.vs_types.specs.declared.access.Access.TheVariants.{Fetch, Read, Write};
-ghost use Rattle.vs_types.specs.declared.access.Mode.TheVariants.{Supervisor, User};
-ghost use Rattle.vs_types.specs.declared.depth.Depth.{Depth};
-ghost use Rattle.vs_types.specs.declared.depth.Depth.TheVariants.{Five, Four};
-ghost use Rattle.vs_types.specs.declared.op.Action.TheVariants.{Unmap};
-ghost use Rattle.vs_types.specs.declared.op.BadOp.TheVariants.{NotCanonical};
-ghost use Rattle.vs_types.specs.declared.entry.Meaning.TheVariants.{Leaf, Reserved, Table};
-ghost use Rattle.vs_types.specs.declared.page.Size.TheVariants.{G1, K4, M2};
+ghost use Rattle.vs_types.specs.declared.requests.answer.Answer.TheVariants.{Allowed, Changed, Done, Fault, Full, Inside, Mapped, NotMapped, Overlap, Removed};
+ghost use Rattle.vs_types.specs.declared.addresses.access.Access.TheVariants.{Fetch, Read, Write};
+ghost use Rattle.vs_types.specs.declared.addresses.access.Mode.TheVariants.{Supervisor, User};
+ghost use Rattle.vs_types.specs.declared.addresses.depth.Depth.{Depth};
+ghost use Rattle.vs_types.specs.declared.addresses.depth.Depth.TheVariants.{Five, Four};
+ghost use Rattle.vs_types.specs.declared.requests.op.Action.TheVariants.{Unmap};
+ghost use Rattle.vs_types.specs.declared.requests.op.BadOp.TheVariants.{NotCanonical};
+ghost use Rattle.vs_types.specs.declared.entries.entry.Meaning.TheVariants.{Leaf, Reserved, Table};
+ghost use Rattle.vs_types.specs.declared.addresses.page.Size.TheVariants.{G1, K4, M2};
 ghost use Rattle.vs_types.specs.Depth.{index_at, is_canonical};
 ghost use Rattle.vs_types.specs.Entry.{all_rights, leaf_word, meaning, table_word};
 ghost use Rattle.vs_types.specs.Operation.{action_fault};

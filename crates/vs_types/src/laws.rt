@@ -2,14 +2,14 @@
 //! operation and limit.
 ghost use Rattle.std.specs.Prelude.{◌≡◌, ℕ, Bool, ◌+◌, ◌<◌, ◌≤◌, ◌↔◌, Contains, IsTrue, IsFalse, List, slice_get, Some, None};
 ghost use Rattle.std.specs.FinMap as finite;
-ghost use Rattle.vs_types.specs.declared.access.Access.{Access};
-ghost use Rattle.vs_types.specs.declared.access.Mode.{Mode};
-ghost use Rattle.vs_types.specs.declared.depth.Depth.{Depth};
-ghost use Rattle.vs_types.specs.declared.page.Page.{Page};
-ghost use Rattle.vs_types.specs.declared.page.Rights.{Rights};
-ghost use Rattle.vs_types.specs.declared.op.Action.{Action};
-ghost use Rattle.vs_types.specs.declared.request.Query.{Query};
-ghost use Rattle.vs_types.specs.declared.answer.Answer.{Answer};
+ghost use Rattle.vs_types.specs.declared.addresses.access.Access.{Access};
+ghost use Rattle.vs_types.specs.declared.addresses.access.Mode.{Mode};
+ghost use Rattle.vs_types.specs.declared.addresses.depth.Depth.{Depth};
+ghost use Rattle.vs_types.specs.declared.addresses.page.Page.{Page};
+ghost use Rattle.vs_types.specs.declared.addresses.page.Rights.{Rights};
+ghost use Rattle.vs_types.specs.declared.requests.op.Action.{Action};
+ghost use Rattle.vs_types.specs.declared.requests.request.Query.{Query};
+ghost use Rattle.vs_types.specs.declared.requests.answer.Answer.{Answer};
 ghost use Rattle.vs_types.specs.Access.{allows, fault_code};
 ghost use Rattle.vs_types.specs.Config.{Layout, IsLayout, config_fault};
 ghost use Rattle.vs_types.specs.Depth.{IsCanonical};

@@ -2,15 +2,15 @@
 ghost use Rattle.std.specs.Prelude.{◌≡◌, ◌<◌, ◌%◌, ◌/◌};
 ghost use Rattle.vs_types.specs.Finds.{Finds};
 ghost use Rattle.vs_types.specs.LogEntry.{SpellsEntry, log_words};
-ghost use Rattle.vs_types.specs.declared.depth.Depth.{Depth};
+ghost use Rattle.vs_types.specs.declared.addresses.depth.Depth.{Depth};
 ghost use Rattle.vs_types.specs.inside.Telling.{action_in, rights_in, size_in};
 
-use crate::depth::Depth;
-use crate::fields::RequestFields;
+use crate::addresses::depth::Depth;
+use crate::addresses::page::{Page, Rights, Size};
 use crate::limits::CALLS;
-use crate::op::{Action, Op};
-use crate::page::{Page, Rights, Size};
-use crate::request::{Query, Request};
+use crate::requests::fields::RequestFields;
+use crate::requests::op::{Action, Op};
+use crate::requests::request::{Query, Request};
 
 /// What one call counts in the second word of an entry: the number of a page's first frame is below it.
 const CALL_UNIT: u64 = 1 << 39;

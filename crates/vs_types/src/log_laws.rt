@@ -2,10 +2,10 @@
 ghost use Rattle.std.specs.Prelude.{◌≡◌, ℕ, List, [], ◌∷◌};
 ghost use Rattle.vs_types.specs.Examples.{map_all, user_and_exec};
 ghost use Rattle.vs_types.specs.LogEntry.{SpellsEntry, log_words};
-ghost use Rattle.vs_types.specs.declared.depth.Depth.{Depth};
+ghost use Rattle.vs_types.specs.declared.addresses.depth.Depth.{Depth};
 ghost use Rattle.vs_types.specs.declared.log_entry.LogEntry.{LogEntry};
-ghost use Rattle.vs_types.specs.declared.op.Action.TheVariants.{Unmap, Protect};
-ghost use Rattle.vs_types.specs.declared.page.Size.TheVariants.{K4};
+ghost use Rattle.vs_types.specs.declared.requests.op.Action.TheVariants.{Unmap, Protect};
+ghost use Rattle.vs_types.specs.declared.addresses.page.Size.TheVariants.{K4};
 
 /// Words spell one entry at most, at any depths.
 pub fn log_words_spell_one_entry()

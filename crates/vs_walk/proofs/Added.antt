@@ -4,7 +4,7 @@ use Rattle.std.proofs.Common.{arith, add-one, append_assoc}
 use Rattle.std.specs.Prelude.{All}
 use Rattle.std.proofs.Math.Seq.{drop-append_seam, take-suc}
 use Rattle.std.proofs.lemmas.List.{length-append, length-take, take_all, take-append-le, append-nil}
-use Rattle.vs_types.specs.declared.frame.TheConstants.{FRAME_WORDS}
+use Rattle.vs_types.specs.declared.addresses.frame.TheConstants.{FRAME_WORDS}
 use Rattle.vs_walk.specs.declared.dump.Span.TheVariants.{Whole, Nonzero}
 use Rattle.vs_walk.specs.inside.Kept.{IsKept, AreAdded, IsAdded, filled, part, place_of, nonzero_of}
 use Rattle.vs_walk.specs.inside.Traversed.{AreZeros}

@@ -5,10 +5,10 @@ use Rattle.std.specs.Cmp.{nat_cmp_total}
 use Rattle.vs_types.specs.Depth.{index_at}
 use Rattle.vs_types.specs.Page.{intersection}
 use Rattle.vs_types.specs.Entry.{meaning}
-use Rattle.vs_types.specs.declared.depth.Depth.TheVariants.{Four, Five}
-use Rattle.vs_types.specs.declared.page.Rights.{Rights}
-use Rattle.vs_types.specs.declared.page.Size.TheVariants.{K4, M2}
-use Rattle.vs_types.specs.declared.entry.Meaning.TheVariants as entry
+use Rattle.vs_types.specs.declared.addresses.depth.Depth.TheVariants.{Four, Five}
+use Rattle.vs_types.specs.declared.addresses.page.Rights.{Rights}
+use Rattle.vs_types.specs.declared.addresses.page.Size.TheVariants.{K4, M2}
+use Rattle.vs_types.specs.declared.entries.entry.Meaning.TheVariants as entry
 use Rattle.vs_walk.specs.Walk.{all_rights, walk}
 use Rattle.vs_walk.specs.Traversal.{Visit, OfFrame, OfLeaf, OfReservedBit, traversal, first_fault_after, walk_fault}
 use Rattle.vs_walk.specs.Examples.{one_word, no_words, page_tables, high_tables, three_tables, one_table, two_empty_frames, one_empty_frame}

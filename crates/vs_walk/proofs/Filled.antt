@@ -10,7 +10,7 @@ use Rattle.std.proofs.lemmas.List.{length-append, length-replicate, append-nil, 
 use Rattle.std.proofs.lemmas.List.Elements.{All-nil, All-cons, All-head, All-tail, All-push, All-append, All-replicate, All-get_or}
 use Rattle.std.proofs.lemmas.List.Sorted.{searchable_from_sorted}
 use Rattle.std.proofs.lemmas.Bool.{cases_lt}
-use Rattle.vs_types.specs.declared.frame.TheConstants.{FRAME_WORDS}
+use Rattle.vs_types.specs.declared.addresses.frame.TheConstants.{FRAME_WORDS}
 use Rattle.vs_types.specs.Frame.{IsFrame}
 use Rattle.vs_walk.specs.inside.Borrowed.{IsFrom, IsNext}
 use Rattle.vs_walk.specs.inside.Kept.{IsKept, Rise, filled, place_of, nonzero_of}

@@ -15,7 +15,7 @@ use Rattle.std.proofs.lemmas.Map.Made.{length-le_from_is_member, is_member-Decid
 use Rattle.std.proofs.lemmas.Map.Views.{Contains-from_any}
 use Rattle.vs_types.proofs.Lists.{Contains-cases, not_in_nil}
 use Rattle.vs_types.specs.declared.limits.TheConstants.{FRAMES}
-use Rattle.vs_types.specs.declared.depth.Depth.{Depth}
+use Rattle.vs_types.specs.declared.addresses.depth.Depth.{Depth}
 use Rattle.vs_walk.specs.Dump.{Image, IsDump}
 use Rattle.vs_walk.specs.Memory.{Memory}
 use Rattle.vs_walk.specs.Reached.{AreJust}

@@ -5,7 +5,7 @@ use Rattle.std.specs.FinMap as finite
 use Rattle.std.specs.Ordering.{nat_cmp}
 use Rattle.std.proofs.lemmas.List.{take-append-le, drop-append-le, length-drop, length-take, length-append, length-map, map-append}
 use Rattle.std.proofs.lemmas.List.Elements.{All-head, All-tail, All-push, All-weaker}
-use Rattle.vs_types.specs.declared.frame.TheConstants.{FRAME_WORDS}
+use Rattle.vs_types.specs.declared.addresses.frame.TheConstants.{FRAME_WORDS}
 use Rattle.vs_types.specs.declared.limits.TheConstants.{FRAMES}
 use Rattle.vs_types.specs.Frame.{IsFrame}
 use Rattle.vs_walk.specs.Dump.{AreParts}

@@ -11,8 +11,8 @@ use Rattle.std.proofs.lemmas.List.Elements.{All-contains}
 use lib.Dec.{T}
 use Rattle.vs_types.specs.Page.{IsPage}
 use Rattle.vs_types.specs.Space.{Space, pages, IsSpace}
-use Rattle.vs_types.specs.declared.depth.Depth.{Depth}
-use Rattle.vs_types.specs.declared.page.Page.{Page}
+use Rattle.vs_types.specs.declared.addresses.depth.Depth.{Depth}
+use Rattle.vs_types.specs.declared.addresses.page.Page.{Page}
 use Rattle.vs_types.proofs.Lists.{Contains-head, Contains-tail}
 use Rattle.vs_types.proofs.Spaces.{same_key}
 use Rattle.vs_walk.specs.Memory.{Memory, AreWhole}

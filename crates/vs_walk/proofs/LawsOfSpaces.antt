@@ -13,8 +13,8 @@ use Rattle.vs_types.specs.Depth.{IsCanonical}
 use Rattle.vs_types.specs.Page.{bytes_of, covers, IsPageBelow}
 use Rattle.vs_types.specs.Space.{Space, pages, IsSpace, page_at, page_covering}
 use Rattle.vs_types.specs.Step.{look}
-use Rattle.vs_types.specs.declared.depth.Depth.{Depth}
-use Rattle.vs_types.specs.declared.page.Page.{Page}
+use Rattle.vs_types.specs.declared.addresses.depth.Depth.{Depth}
+use Rattle.vs_types.specs.declared.addresses.page.Page.{Page}
 use Rattle.vs_types.proofs.Lists.{Contains-head, Contains-tail, Contains-cases, not_in_nil, find_found, find_nothing}
 use Rattle.vs_types.proofs.Pages.{covers_means, covers_base, same_page, same_aligned}
 use Rattle.vs_types.proofs.Spaces.{same_key, is_true, both_true, below_key, holds_listed}

@@ -10,10 +10,10 @@ use Rattle.std.proofs.lemmas.List.Elements.{filter_map-append, Contains-append_r
 use Rattle.vs_types.specs.Depth.{levels, entry_bytes, IsCanonical}
 use Rattle.vs_types.specs.Page.{intersection}
 use Rattle.vs_types.specs.Entry.{meaning}
-use Rattle.vs_types.specs.declared.depth.Depth.{Depth}
-use Rattle.vs_types.specs.declared.page.Page.{Page}
-use Rattle.vs_types.specs.declared.entry.Meaning.{Meaning}
-use Rattle.vs_types.specs.declared.entry.Meaning.TheVariants as entry
+use Rattle.vs_types.specs.declared.addresses.depth.Depth.{Depth}
+use Rattle.vs_types.specs.declared.addresses.page.Page.{Page}
+use Rattle.vs_types.specs.declared.entries.entry.Meaning.{Meaning}
+use Rattle.vs_types.specs.declared.entries.entry.Meaning.TheVariants as entry
 use Rattle.vs_types.proofs.Lists.{Contains-head, Contains-cases, not_in_nil}
 use Rattle.vs_walk.specs.Memory.{Memory, AreWhole}
 use Rattle.vs_walk.specs.Walk.{all_rights, walk}

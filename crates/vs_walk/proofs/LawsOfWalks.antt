@@ -9,11 +9,11 @@ use Rattle.std.proofs.lemmas.List.Elements.{All-weaker}
 use Rattle.vs_types.specs.Depth.{levels, entry_bytes, table_bytes, index_at, IsCanonical}
 use Rattle.vs_types.specs.Page.{bytes_of, covers, intersection}
 use Rattle.vs_types.specs.Entry.{meaning, size_at}
-use Rattle.vs_types.specs.declared.depth.Depth.{Depth}
-use Rattle.vs_types.specs.declared.page.Page.{Page}
-use Rattle.vs_types.specs.declared.page.Rights.{Rights}
-use Rattle.vs_types.specs.declared.entry.Meaning.{Meaning}
-use Rattle.vs_types.specs.declared.entry.Meaning.TheVariants as entry
+use Rattle.vs_types.specs.declared.addresses.depth.Depth.{Depth}
+use Rattle.vs_types.specs.declared.addresses.page.Page.{Page}
+use Rattle.vs_types.specs.declared.addresses.page.Rights.{Rights}
+use Rattle.vs_types.specs.declared.entries.entry.Meaning.{Meaning}
+use Rattle.vs_types.specs.declared.entries.entry.Meaning.TheVariants as entry
 use Rattle.vs_types.proofs.Pages.{covers_means}
 use Rattle.vs_walk.specs.Memory.{Memory, AreWhole}
 use Rattle.vs_walk.specs.Walk.{all_rights, walk_entry, walk_from, walk}

@@ -7,11 +7,11 @@ use Rattle.std.proofs.lemmas.Nat.{pow-add, div-mul-add, mod-mul-add, div-add-mod
 use Rattle.vs_types.specs.Depth.{levels, entry_bytes, table_bytes, half_bytes, IsCanonical}
 use Rattle.vs_types.specs.Page.{bytes_of}
 use Rattle.vs_types.specs.Entry.{meaning, size_at}
-use Rattle.vs_types.specs.declared.depth.Depth.{Depth}
-use Rattle.vs_types.specs.declared.page.Rights.{Rights}
-use Rattle.vs_types.specs.declared.page.Size.{Size}
-use Rattle.vs_types.specs.declared.page.Size.TheVariants.{K4}
-use Rattle.vs_types.specs.declared.entry.Meaning.TheVariants as entry
+use Rattle.vs_types.specs.declared.addresses.depth.Depth.{Depth}
+use Rattle.vs_types.specs.declared.addresses.page.Rights.{Rights}
+use Rattle.vs_types.specs.declared.addresses.page.Size.{Size}
+use Rattle.vs_types.specs.declared.addresses.page.Size.TheVariants.{K4}
+use Rattle.vs_types.specs.declared.entries.entry.Meaning.TheVariants as entry
 use Rattle.vs_types.proofs.Pages.{half_multiple, canonical_means, ends_before}
 use Rattle.vs_walk.specs.Traversal.{canonical_from}
 use Rattle.vs_walk.proofs.Walks.{few_levels, leaf_level}

@@ -2,8 +2,8 @@
 use Rattle.std.proofs.Common.{◌≡◌, ℕ, zero, suc, ◌+◌, ◌-◌, ◌*◌, ◌^◌, ◌<◌, ◌≤◌, ◌%◌, sym, ap, subst, ◌∙◌, arith, w64, Fits as Fits-word}
 use lib.Pow.{pow_mono}
 use Rattle.vs_types.specs.Depth.{levels, entry_bytes, table_bytes, half_bytes}
-use Rattle.vs_types.specs.declared.depth.Depth.{Depth}
-use Rattle.vs_types.specs.declared.page.Rights.{Rights}
+use Rattle.vs_types.specs.declared.addresses.depth.Depth.{Depth}
+use Rattle.vs_types.specs.declared.addresses.page.Rights.{Rights}
 use Rattle.vs_walk.specs.inside.Traversed.{Fits}
 use Rattle.vs_walk.specs.declared.traversal.TablePosition.{TablePosition}
 use Rattle.vs_walk.proofs.TranslatedBits.{halves_fit, entry_is_table, entry_some}

@@ -15,7 +15,7 @@ use Rattle.vs_walk.specs.Traversal.{Visit, OfFrame, OfLeaf, OfReservedBit, reach
 use Rattle.vs_walk.specs.inside.Traversed.{GoesOn, Stops, TakesFound}
 use Rattle.vs_walk.specs.declared.walk.WalkFault.{WalkFault}
 use Rattle.vs_walk.specs.declared.walk.WalkFault.TheVariants.{Missing, Shared, Reserved}
-use Rattle.vs_types.specs.declared.page.Page.{Page}
+use Rattle.vs_types.specs.declared.addresses.page.Page.{Page}
 
 -- ---- the frames that are marked
 

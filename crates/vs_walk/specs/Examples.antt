@@ -1,8 +1,8 @@
 -- Small tables, word by word. A frame that is not named is missing, and a word that is not named is 0.
 use Rattle.std.specs.Prelude.{ℕ, List, [], ◌∷◌, true, false, replicate, slice_set}
 use Rattle.std.specs.FinMap as finite
-use Rattle.vs_types.specs.declared.frame.TheConstants.{FRAME_WORDS}
-use Rattle.vs_types.specs.declared.page.Rights.{Rights}
+use Rattle.vs_types.specs.declared.addresses.frame.TheConstants.{FRAME_WORDS}
+use Rattle.vs_types.specs.declared.addresses.page.Rights.{Rights}
 use Rattle.vs_walk.specs.Memory.{Memory}
 
 -- 512 words, 0 but for the one at this index

@@ -4,10 +4,10 @@ use Rattle.std.specs.FinMap as finite
 use Rattle.vs_types.specs.Depth.{levels}
 use Rattle.vs_types.specs.Entry.{meaning}
 use Rattle.vs_types.specs.Step.{look_in_page}
-use Rattle.vs_types.specs.declared.depth.Depth.{Depth}
-use Rattle.vs_types.specs.declared.entry.Meaning.TheVariants as entry
-use Rattle.vs_types.specs.declared.page.Page.{Page}
-use Rattle.vs_types.specs.declared.page.Rights.{Rights}
+use Rattle.vs_types.specs.declared.addresses.depth.Depth.{Depth}
+use Rattle.vs_types.specs.declared.entries.entry.Meaning.TheVariants as entry
+use Rattle.vs_types.specs.declared.addresses.page.Page.{Page}
+use Rattle.vs_types.specs.declared.addresses.page.Rights.{Rights}
 use Rattle.vs_walk.specs.Memory.{Memory}
 use Rattle.vs_walk.specs.Walk.{as_walk}
 use Rattle.vs_walk.specs.declared.walk.Walk.{Walk}

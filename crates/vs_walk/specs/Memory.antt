@@ -3,7 +3,7 @@ use Rattle.std.specs.Prelude.{◌≡◌, ℕ, List, length, Some}
 use Rattle.std.specs.FinMap as finite
 use Rattle.std.specs.FinMap.{FinMap}
 use Rattle.std.specs.Ordering.{nat_cmp}
-use Rattle.vs_types.specs.declared.frame.TheConstants.{FRAME_WORDS}
+use Rattle.vs_types.specs.declared.addresses.frame.TheConstants.{FRAME_WORDS}
 
 abbrev pub Memory : Type 0
 Memory = FinMap nat_cmp (List ℕ)

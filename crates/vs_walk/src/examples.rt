@@ -1,7 +1,7 @@
 //! Worked examples: what the definitions give at numbers.
 ghost use Rattle.std.specs.Prelude.{◌≡◌, List, [], ◌∷◌, Some, None};
-ghost use Rattle.vs_types.specs.declared.depth.Depth.TheVariants.{Four, Five};
-ghost use Rattle.vs_types.specs.declared.page.Size.TheVariants.{K4, M2};
+ghost use Rattle.vs_types.specs.declared.addresses.depth.Depth.TheVariants.{Four, Five};
+ghost use Rattle.vs_types.specs.declared.addresses.page.Size.TheVariants.{K4, M2};
 ghost use Rattle.vs_walk.specs.declared.walk.Walk.TheVariants.{NotMapped, Reserved, Missing, Mapped};
 ghost use Rattle.vs_walk.specs.declared.walk.WalkFault.TheVariants as faults;
 ghost use Rattle.vs_walk.specs.Walk.{all_rights, walk};

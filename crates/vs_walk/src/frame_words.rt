@@ -1,6 +1,6 @@
 //! The words of one frame.
 ghost use Rattle.std.specs.Prelude.{◌≡◌, ◌≢◌, ◌≤◌, ◌<◌, ℕ, length, slice_index};
-ghost use Rattle.vs_types.specs.declared.frame.TheConstants.{FRAME_WORDS};
+ghost use Rattle.vs_types.specs.declared.addresses.frame.TheConstants.{FRAME_WORDS};
 ghost use Rattle.vs_walk.specs.inside.Borrowed.{IsFrom, IsNext};
 ghost use Rattle.vs_walk.specs.inside.Kept.{IsKept, Rise, filled};
 

@@ -4,8 +4,8 @@ ghost use Rattle.std.specs.Prelude.{◌≡◌, ◌≢◌, ◌≤◌, ◌<◌, �
 ghost use Rattle.std.specs.FinMap as finite;
 ghost use Rattle.std.specs.List.{AllPairs, IsDistinct};
 ghost use Rattle.vs_types.specs.declared.limits.TheConstants.{FRAMES};
-ghost use Rattle.vs_types.specs.declared.depth.Depth.{Depth};
-ghost use Rattle.vs_types.specs.declared.page.Page.{Page};
+ghost use Rattle.vs_types.specs.declared.addresses.depth.Depth.{Depth};
+ghost use Rattle.vs_types.specs.declared.addresses.page.Page.{Page};
 ghost use Rattle.vs_types.specs.Depth.{IsCanonical};
 ghost use Rattle.vs_types.specs.Page.{covers, end_of, IsPage, IsPageBelow};
 ghost use Rattle.vs_types.specs.Space.{Space, IsSpace, pages, page_covering};

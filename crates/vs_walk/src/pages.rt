@@ -16,8 +16,8 @@ pub struct Pages {
 impl Model for Pages {
     ghost use Rattle.std.specs.Prelude.{List};
     ghost use Rattle.std.specs.Coded.{coded_list};
-    ghost use Rattle.vs_types.specs.contracts.page.Page as page_contract;
-    ghost use Rattle.vs_types.specs.declared.page.Page.{Page};
+    ghost use Rattle.vs_types.specs.contracts.addresses.page.Page as page_contract;
+    ghost use Rattle.vs_types.specs.declared.addresses.page.Page.{Page};
 
     ghost Value = { List Page };
 

@@ -1,7 +1,7 @@
 //! The traversal of a page table.
 ghost use Rattle.std.specs.Prelude.{◌≡◌, ◌+◌, ◌-◌, ◌*◌, ◌<◌, ◌≤◌, List, Some, None, IfOk, IfErr, OnOk, length, ◌++◌, ◌∷◌, []};
-ghost use Rattle.vs_types.specs.declared.page.Page.{Page};
-ghost use Rattle.vs_types.specs.declared.frame.TheConstants.{FRAME_WORDS};
+ghost use Rattle.vs_types.specs.declared.addresses.page.Page.{Page};
+ghost use Rattle.vs_types.specs.declared.addresses.frame.TheConstants.{FRAME_WORDS};
 ghost use Rattle.vs_types.specs.Depth.{half_bytes, entry_bytes};
 ghost use Rattle.vs_types.specs.Entry.{size_at};
 ghost use Rattle.vs_types.specs.Page.{intersection};

@@ -4,14 +4,14 @@ use Rattle.std.specs.Io.KnownBytes.{Appends}
 use Rattle.nr_trace.specs.Recording.{Recording}
 use Rattle.nr_trace.specs.FirstFault.{HasSegmentFault}
 use Rattle.nr_trace.specs.Orders.{recorded_order}
-use Rattle.nr_trace.specs.declared.fault.Format.TheVariants.{Truncated}
+use Rattle.nr_trace.specs.declared.refusals.fault.Format.TheVariants.{Truncated}
 use Rattle.nr_audit.specs.Faults.{IsSoundAfter}
 use Rattle.nr_joined.specs.Run.{Run}
 use Rattle.nr_audit.specs.Met.{totals_with, HasMet}
 use Rattle.nr_audit.specs.Segments.{run_after}
 use Rattle.nr_audit.specs.Start.{begins_in}
-use Rattle.nr_audit.specs.declared.met.Met.{Met}
-use Rattle.nr_audit.specs.declared.met.Totals.{Totals}
+use Rattle.nr_audit.specs.declared.histories.met.Met.{Met}
+use Rattle.nr_audit.specs.declared.histories.met.Totals.{Totals}
 use Rattle.nr_chain.specs.Fed.{ChainFed, IsKeptOf}
 use Rattle.nr_chain.specs.Bytes.{layout_before, BeginsWith}
 use Rattle.nr_chain.specs.Verdict.{LastsNext}

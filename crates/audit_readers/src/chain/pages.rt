@@ -1,13 +1,13 @@
 //! The pages with which a chain begins, and those after its last segment.
 
 ghost use Rattle.std.specs.Prelude.{◌≡◌, ◌-◌, ◌^◌, ℕ, [], IfErr, IfOk, List, None, OnOk, Option, Result, length, string_bytes};
-ghost use Rattle.vs_types.specs.declared.refusal.Fail.{Fail};
+ghost use Rattle.vs_types.specs.declared.requests.refusal.Fail.{Fail};
 ghost use Rattle.vs_types.specs.Refusal.{IfRefused};
 ghost use Rattle.vs_types.specs.Space.{pages};
 ghost use Rattle.nr_trace.specs.Feed.{EndsSegment, FedSegment};
 ghost use Rattle.nr_trace.specs.Feed.Fed.{Taken};
 ghost use Rattle.nr_trace.specs.Recording.{IsRecording, Recording};
-ghost use Rattle.nr_trace.specs.declared.fault.Format.{Format};
+ghost use Rattle.nr_trace.specs.declared.refusals.fault.Format.{Format};
 ghost use Rattle.nr_joined.specs.Run.{Run};
 ghost use Rattle.nr_chain.specs.Fed.{IsKeptOf};
 ghost use Rattle.nr_audit.specs.Faults.{IsFirstAfter, IsSoundAfter};

@@ -1,7 +1,7 @@
 -- Pages that are taken one after another, and the lines that they have made so far. No public clause cites this file.
 use Rattle.std.specs.Prelude.{◌≡◌, ℕ, ◌≤◌, ◌^◌, List, ◌++◌, All, Option, None, Some, IfSome}
 use Rattle.vs_types.specs.Page.{end_of}
-use Rattle.vs_types.specs.declared.page.Page.{Page}
+use Rattle.vs_types.specs.declared.addresses.page.Page.{Page}
 use Rattle.audit_texts.specs.Listing.{range_lines}
 use Rattle.audit_texts.specs.Ranges.{joined, range_end, ranges_of}
 use Rattle.audit_texts.specs.declared.pages.range.PageRange.{PageRange}

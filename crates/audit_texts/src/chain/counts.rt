@@ -5,9 +5,9 @@ ghost use Rattle.serde_json.specs.View.{view};
 ghost use Rattle.audit_texts.specs.Parts.{part_of};
 ghost use Rattle.audit_texts.specs.ChainEvidence.{chain_counts_data, chain_counts_lines, chain_counts_parts};
 
-use crate::part_json::parts_value;
-use crate::part_text::parts_text;
-use crate::parts::{Part, Says};
+use crate::json::part_json::parts_value;
+use crate::lines::part_text::parts_text;
+use crate::lines::parts::{Part, Says};
 use nr_explain::ChainCounts;
 use serde_json::Value;
 use std::alloc::{AllocError, Global};

@@ -5,8 +5,8 @@ ghost use Rattle.serde_json.specs.View.{members_view, view};
 ghost use Rattle.audit_texts.specs.ChainEvidence.{earlier_data, earlier_line, earlier_of, put_earlier, with_array, with_earlier};
 ghost use Rattle.audit_texts.specs.ChainSentence.{earlier_words};
 
-use crate::answer::answer_text;
-use crate::fact_json::Members;
+use crate::json::fact_json::Members;
+use crate::wording::answer::answer_text;
 use nr_explain::SegmentEvidence;
 use serde_json::{Value, put};
 use std::alloc::{AllocError, Global};

@@ -9,17 +9,17 @@ ghost use Rattle.audit_texts.specs.ChainEvidence.{other_answer_parts, segment_ev
 ghost use Rattle.audit_texts.specs.ChainEvidence.{start_beyond_parts, start_differs_parts};
 ghost use Rattle.audit_texts.specs.ChainEvidence.{stale_parts, start_stray_parts, window_parts, with_looks};
 
-use crate::answer::answer_text;
 use crate::chain::earlier::{push_earlier, put_earlier};
 use crate::chain::lags::put_lag;
 use crate::chain::missed::put_missed;
 use crate::chain::releases::put_why;
 use crate::evidence::{put_evidence, put_missing, put_reserved, put_shared};
-use crate::fact_json::Members;
+use crate::json::fact_json::Members;
+use crate::lines::output::Output;
+use crate::lines::parts::{Part, Says};
 use crate::nearby::put_nearby;
-use crate::output::Output;
-use crate::parts::{Part, Says};
 use crate::shared::{put_answer, put_look, put_read, put_stray_frame, put_unlike};
+use crate::wording::answer::answer_text;
 use nr_explain::{
     BadSegment, Difference, Moment, Origin, OtherAnswer, PlacedUpdate, SegmentEvidence, StaleTouch,
     StartBeyond, StartDiffers,

@@ -10,7 +10,7 @@ use crate::chain::counts::{chain_counts_lines, chain_counts_value};
 use crate::chain::evidence::{segment_evidence_text, segment_evidence_value};
 use crate::chain::sentence::segment_sentence;
 use crate::chain::text::end_lines;
-use crate::usual::{push_sentence, put_usual};
+use crate::wording::usual::{push_sentence, put_usual};
 use nr_explain::{ChainCounts, ChainExplanation, SegmentEvidence};
 use nr_trace::Fault;
 use serde_json::{Map, Value, put};

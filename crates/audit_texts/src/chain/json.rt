@@ -6,10 +6,10 @@ ghost use Rattle.serde_json.specs.View.{members_view, view};
 ghost use Rattle.audit_texts.specs.AuditJson.{right_members};
 ghost use Rattle.audit_texts.specs.ChainJson.{end_json, end_members, segment_json};
 ghost use Rattle.audit_texts.specs.EvidenceJson.{number_data};
-ghost use Rattle.nr_audit.specs.declared.met.Totals.{Totals as TotalsRow};
+ghost use Rattle.nr_audit.specs.declared.histories.met.Totals.{Totals as TotalsRow};
 
-use crate::audit_json::{json_line, put_fault, put_right};
-use crate::fact_json::Members;
+use crate::json::audit_json::{json_line, put_fault, put_right};
+use crate::json::fact_json::Members;
 use nr_audit::Totals;
 use nr_trace::Fault;
 use serde_json::{Map, Value, put};

@@ -4,8 +4,8 @@ ghost use Rattle.std.specs.Prelude.{◌≡◌, OnOk};
 ghost use Rattle.audit_texts.specs.Parts.{put_all};
 ghost use Rattle.audit_texts.specs.ChainReleases.{known_parts, lag_parts, shown_parts};
 
-use crate::output::Output;
-use crate::parts::{Part, Says};
+use crate::lines::output::Output;
+use crate::lines::parts::{Part, Says};
 use nr_explain::{Lag, RecordedReply};
 use std::alloc::{AllocError, Global};
 

@@ -6,10 +6,10 @@ ghost use Rattle.audit_texts.specs.ChainEvidence.{missed_parts, seen_parts};
 ghost use Rattle.audit_texts.specs.NearbyText.{later_line, missed_data, missed_lines, open_data, open_lines};
 ghost use Rattle.audit_texts.specs.Parts.{put_all};
 
-use crate::fact_json::{call_value, reply_value, taken_value};
-use crate::fact_text::{call_line, own_line, reply_line};
-use crate::output::Output;
-use crate::parts::{Part, Says};
+use crate::json::fact_json::{call_value, reply_value, taken_value};
+use crate::lines::fact_text::{call_line, own_line, reply_line};
+use crate::lines::output::Output;
+use crate::lines::parts::{Part, Says};
 use nr_explain::{MissedUpdate, OpenUpdate, PlacedUpdate, SegmentEvidence, StaleTouch};
 use serde_json::{Map, Value, put};
 use std::alloc::{AllocError, Global};

@@ -7,10 +7,10 @@ ghost use Rattle.audit_texts.specs.ChainReleases.{answered_words, away_parts, aw
 ghost use Rattle.audit_texts.specs.ChainReleases.{otherwise_sentence, reach_parts, reach_sentence, release_parts, release_sentence};
 ghost use Rattle.audit_texts.specs.ChainReleases.{taken_parts, taken_words, why_parts};
 
-use crate::answer::answer_text;
 use crate::chain::sentence::address_text;
-use crate::output::Output;
-use crate::parts::{Part, Says};
+use crate::lines::output::Output;
+use crate::lines::parts::{Part, Says};
+use crate::wording::answer::answer_text;
 use nr_explain::{Leading, OpenUpdate, Reach, RecordedCall, RecordedReply, WhyWrong};
 use std::alloc::{AllocError, Global};
 use vs_types::Answer;

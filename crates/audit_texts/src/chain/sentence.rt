@@ -7,15 +7,15 @@ ghost use Rattle.audit_texts.specs.ChainSentence.{segment_sentence, stale_senten
 ghost use Rattle.audit_texts.specs.ChainSentence.{start_beyond_sentence, start_differs_sentence};
 ghost use Rattle.audit_texts.specs.ChainSentence.{start_stray_sentence, window_text};
 
-use crate::answer::answer_text;
 use crate::chain::earlier::earlier_words;
 use crate::chain::releases::release_sentence;
-use crate::sentence::{
+use crate::wording::answer::answer_text;
+use crate::wording::sentence::{
     difference_sentence, missing_sentence, other_answer_sentence, reason_text, reserved_sentence,
     sentence_text, shared_sentence,
 };
-use crate::text::walk_words;
-use crate::units::bytes_text;
+use crate::wording::text::walk_words;
+use crate::wording::units::bytes_text;
 use nr_explain::{BadUnit, Lag, SegmentEvidence, StaleTouch, StartBeyond, StartDiffers, fewest};
 use nr_trace::Format;
 use std::alloc::{AllocError, Global};

@@ -4,7 +4,7 @@ ghost use Rattle.std.specs.Prelude.{◌≡◌, ◌++◌, IfOk, string_bytes};
 ghost use Rattle.audit_texts.specs.ChainText.{end_lines, segment_lines, told_end, told_segment};
 
 use crate::chain::json::{end_json, segment_json};
-use crate::text::{fault_text, yes_text};
+use crate::wording::text::{fault_text, yes_text};
 use nr_audit::Totals;
 use nr_trace::Fault;
 use std::alloc::{AllocError, Global};

@@ -2,7 +2,7 @@
 
 ghost use Rattle.std.specs.Prelude.{◌≡◌, ◌≤◌, ◌^◌, ◌++◌, ◌∷◌, [], List, All, IfOk, string_bytes};
 ghost use Rattle.vs_types.specs.Page.{end_of};
-ghost use Rattle.vs_types.specs.declared.page.Page.{Page};
+ghost use Rattle.vs_types.specs.declared.addresses.page.Page.{Page};
 ghost use Rattle.audit_texts.specs.Listing.{page_lines, range_lines};
 ghost use Rattle.audit_texts.specs.Ranges.{ranges_of};
 ghost use Rattle.audit_texts.specs.inside.Taking.{HasJoined};

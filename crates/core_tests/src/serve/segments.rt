@@ -1,6 +1,6 @@
 //! Runs in segments of one log: each goes on with the space of those before it, and their bytes are one chain.
 ghost use Rattle.std.specs.Prelude.{◌≡◌, ◌+◌, IfOk, IfSome};
-ghost use Rattle.nr_ring.specs.declared.words.TheConstants.{MOST_PLACES};
+ghost use Rattle.nr_ring.specs.declared.cells.words.TheConstants.{MOST_PLACES};
 
 use crate::serve::gates::StopAt;
 use crate::serve::scene::TURNS;

@@ -1,7 +1,7 @@
 -- An index or none as a number: one more than the index, and 0 for none. No public clause cites this file.
 use Rattle.std.specs.Prelude.{◌≡◌, ℕ, zero, suc, Option, Some, None}
 use Rattle.std.proofs.Common.{refl, ap}
-use Rattle.nr_audit.specs.declared.tables.MaybeIndex.TheInside.{Inside}
+use Rattle.nr_audit.specs.declared.checks.tables.MaybeIndex.TheInside.{Inside}
 
 abbrev pub predecessor : ℕ → Option ℕ
 predecessor zero = None

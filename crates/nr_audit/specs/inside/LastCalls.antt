@@ -2,8 +2,8 @@
 use Rattle.std.specs.Prelude.{◌≡◌, ℕ, ◌<◌, length, slice_index_or, Option, None, ⊤}
 use Rattle.std.specs.Ordering.{nat_cmp}
 use Rattle.std.specs.BTreeMap.{get}
-use Rattle.nr_audit.specs.declared.last_calls.LastCalls.{LastCalls}
-use Rattle.nr_audit.specs.declared.last_calls.LastCalls.TheVariants.{Rows, Entries}
+use Rattle.nr_audit.specs.declared.histories.last_calls.LastCalls.{LastCalls}
+use Rattle.nr_audit.specs.declared.histories.last_calls.LastCalls.TheVariants.{Rows, Entries}
 
 -- the last call of a thread, if it has made one
 abbrev pub last_of : LastCalls → ℕ → Option ℕ

@@ -3,7 +3,7 @@ use Rattle.std.specs.Prelude.{◌≡◌, ◌↔◌, ℕ, ◌+◌, ◌<◌, ◌�
 use Rattle.nr_trace.specs.Recording.{Recording}
 use Rattle.nr_trace.specs.Orders.{below}
 use Rattle.nr_audit.specs.Meetings.{is_asked, meets}
-use Rattle.nr_audit.specs.declared.meetings.Latest.{Latest}
+use Rattle.nr_audit.specs.declared.histories.meetings.Latest.{Latest}
 
 -- it is the number of an update or a read
 abbrev pub Asks : Recording → ℕ → Type 0

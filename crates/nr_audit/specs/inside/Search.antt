@@ -3,8 +3,8 @@ use Rattle.std.specs.Prelude.{ℕ, ◌<◌, Option, Some, None}
 use Rattle.vs_types.specs.Space.{Space, no_pages}
 use Rattle.nr_trace.specs.Recording.{Recording}
 use Rattle.nr_trace.specs.Faults.{HasFaultFrom, Earlier}
-use Rattle.nr_trace.specs.declared.fault.Fault.{Fault}
-use Rattle.nr_trace.specs.declared.fault.Fault.TheVariants.{Early, Stale, Reachable}
+use Rattle.nr_trace.specs.declared.refusals.fault.Fault.{Fault}
+use Rattle.nr_trace.specs.declared.refusals.fault.Fault.TheVariants.{Early, Stale, Reachable}
 use Rattle.nr_joined.specs.Run.{Run}
 use Rattle.nr_audit.specs.Releases.{IsWrongAt}
 use Rattle.nr_audit.specs.Touches.{IsStale}

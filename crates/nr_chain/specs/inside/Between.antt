@@ -4,8 +4,8 @@ use Rattle.vs_types.specs.Config.{Layout}
 use Rattle.nr_trace.specs.Feed.{Fed, FedSegment, IsWhole}
 use Rattle.nr_trace.specs.Feed.Fed.{Taken, Stopped}
 use Rattle.nr_trace.specs.FirstFault.{HasFaultAs}
-use Rattle.nr_trace.specs.declared.fault.Format.TheVariants.{Truncated}
-use Rattle.nr_trace.specs.declared.version.Form.TheVariants as forms
+use Rattle.nr_trace.specs.declared.refusals.fault.Format.TheVariants.{Truncated}
+use Rattle.nr_trace.specs.declared.formats.version.Form.TheVariants as forms
 use Rattle.nr_audit.specs.Segments.{FitsPast}
 use Rattle.nr_chain.specs.Fed.{Kept}
 use Rattle.nr_chain.specs.declared.chain.Last.{Last}

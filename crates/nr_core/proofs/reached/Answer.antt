@@ -5,14 +5,14 @@ use Rattle.std.specs.Prelude.{slice_set, ◌%◌}
 use Rattle.std.specs.List.{IsDistinct}
 use Rattle.std.proofs.lemmas.Bool.{false≢true}
 use Rattle.std.proofs.lemmas.Option.{same_Some, none-some}
-use Rattle.vs_types.specs.declared.request.Query.TheVariants.{Update}
+use Rattle.vs_types.specs.declared.requests.request.Query.TheVariants.{Update}
 use Rattle.nr_trace.specs.Calls.{made_by}
 use Rattle.nr_trace.proofs.LawsOfLists.{In, in_filter, absent_from, absent_not_in, in_map, in_mapped}
 use Rattle.nr_core.specs.State.{State, Thread, Replica, with_thread, with_replica}
 use Rattle.nr_core.specs.Steps.{without, is_some_left}
-use Rattle.nr_core.specs.declared.stage.Answered.{Answered}
-use Rattle.nr_core.specs.declared.stage.Collected.{Collected}
-use Rattle.nr_core.specs.declared.stage.Stage.TheVariants.{Taken, Ready}
+use Rattle.nr_core.specs.declared.states.stage.Answered.{Answered}
+use Rattle.nr_core.specs.declared.states.stage.Collected.{Collected}
+use Rattle.nr_core.specs.declared.states.stage.Stage.TheVariants.{Taken, Ready}
 use Rattle.nr_core.specs.Laws.{IsTaken}
 use Rattle.nr_core.specs.inside.Reached.{At, call_at, made_of, shared_in, FitsStage, open_in, IsRight, IsCollected, AreCollected, IsReached}
 use Rattle.nr_core.proofs.reached.Places.{each_set}

@@ -4,11 +4,11 @@ use Rattle.std.specs.Prelude.{◌%◌}
 use Rattle.std.specs.List.{IsDistinct}
 use Rattle.std.proofs.lemmas.Bool.{false≢true}
 use Rattle.vs_types.specs.declared.log_entry.LogEntry.{LogEntry}
-use Rattle.vs_types.specs.declared.request.Query.TheVariants.{Update}
+use Rattle.vs_types.specs.declared.requests.request.Query.TheVariants.{Update}
 use Rattle.nr_trace.specs.Calls.{Invocation}
 use Rattle.nr_trace.proofs.LawsOfLists.{In, in_map}
 use Rattle.nr_core.specs.State.{State, Thread, Replica, with_replica}
-use Rattle.nr_core.specs.declared.stage.Collected.{Collected}
+use Rattle.nr_core.specs.declared.states.stage.Collected.{Collected}
 use Rattle.nr_core.specs.inside.Reached.{request_made, At, call_at, made_of, calls_of, waiting_in, IsFresh, IsReached}
 use Rattle.nr_core.proofs.reached.Places.{each_set}
 use Rattle.nr_core.proofs.reached.Changes.{replica_changes, still_collected, log_grows}

@@ -10,14 +10,14 @@ use Rattle.vs_types.specs.Config.{Layout}
 use Rattle.vs_types.specs.Space.{Space, no_pages}
 use Rattle.vs_types.specs.Step.{step, after_all}
 use Rattle.vs_types.specs.declared.log_entry.LogEntry.{LogEntry}
-use Rattle.vs_types.specs.declared.op.Action.{Action}
-use Rattle.vs_types.specs.declared.request.Query.TheVariants.{Update}
+use Rattle.vs_types.specs.declared.requests.op.Action.{Action}
+use Rattle.vs_types.specs.declared.requests.request.Query.TheVariants.{Update}
 use Rattle.nr_trace.specs.Calls.{Invocation, operation_in}
 use Rattle.nr_trace.proofs.LawsOfLists.{In, in_map}
 use Rattle.nr_core.specs.State.{State, Replica, with_replica}
 use Rattle.nr_core.specs.Steps.{note, with_entry}
-use Rattle.nr_core.specs.declared.stage.Answered.{Answered}
-use Rattle.nr_core.specs.declared.stage.Collected.{Collected}
+use Rattle.nr_core.specs.declared.states.stage.Answered.{Answered}
+use Rattle.nr_core.specs.declared.states.stage.Collected.{Collected}
 use Rattle.nr_core.specs.inside.Reached.{request_made, At, call_at, made_of, space_at, shared_in, IsRight, IsCollected, IsReplicaOf, IsReached}
 use Rattle.nr_core.proofs.reached.Places.{at_set, at_mapped}
 use Rattle.nr_core.proofs.reached.Changes.{replica_changes, still_collected}

@@ -3,14 +3,14 @@ use Rattle.std.proofs.Common.{◌≡◌, ℕ, ◌⊎◌, inl, inr, List, [], ◌
 use Rattle.std.specs.Prelude.{slice_set}
 use Rattle.std.proofs.lemmas.Option.{same_Some, none-some}
 use Rattle.vs_types.specs.declared.log_entry.LogEntry.{LogEntry}
-use Rattle.vs_types.specs.declared.request.Query.{Query}
+use Rattle.vs_types.specs.declared.requests.request.Query.{Query}
 use Rattle.nr_trace.specs.Calls.{Invocation, made_by, Response, reply_in}
-use Rattle.nr_trace.specs.declared.event.Event.{Event}
-use Rattle.nr_trace.specs.declared.event.Event.TheVariants as events
-use Rattle.nr_trace.specs.declared.event.Asked.TheVariants as askeds
+use Rattle.nr_trace.specs.declared.recordings.event.Event.{Event}
+use Rattle.nr_trace.specs.declared.recordings.event.Event.TheVariants as events
+use Rattle.nr_trace.specs.declared.recordings.event.Asked.TheVariants as askeds
 use Rattle.nr_trace.proofs.LawsOfLists.{In, in_map}
 use Rattle.nr_core.specs.State.{State, Thread, home, with_thread}
-use Rattle.nr_core.specs.declared.stage.Stage.TheVariants.{Idle, Called}
+use Rattle.nr_core.specs.declared.states.stage.Stage.TheVariants.{Idle, Called}
 use Rattle.nr_core.specs.inside.Reached.{At, RepliesTo, made_of, open_in, IsUnanswered, HasOpen, IsFresh, AreCalls, IsReached}
 use Rattle.nr_core.proofs.reached.Places.{at_set, at_in}
 use Rattle.nr_core.proofs.reached.Growth.{Longer, read_within, read_stays}

@@ -8,13 +8,13 @@ use Rattle.std.proofs.lemmas.List.{length-append, map-append}
 use Rattle.std.proofs.lemmas.Option.{same_Some}
 use Rattle.vs_types.specs.Config.{Layout}
 use Rattle.vs_types.specs.declared.log_entry.LogEntry.{LogEntry}
-use Rattle.vs_types.specs.declared.request.Query.TheVariants.{Update}
+use Rattle.vs_types.specs.declared.requests.request.Query.TheVariants.{Update}
 use Rattle.nr_trace.specs.Calls.{made_by, Invocation}
-use Rattle.nr_trace.specs.declared.event.Event.{Event}
+use Rattle.nr_trace.specs.declared.recordings.event.Event.{Event}
 use Rattle.nr_trace.proofs.LawsOfLists.{In, in_either, distinct_append}
 use Rattle.nr_core.specs.State.{State, Thread, Replica, with_thread, with_replica}
-use Rattle.nr_core.specs.declared.stage.Collected.{Collected}
-use Rattle.nr_core.specs.declared.stage.Stage.TheVariants.{Taken}
+use Rattle.nr_core.specs.declared.states.stage.Collected.{Collected}
+use Rattle.nr_core.specs.declared.states.stage.Stage.TheVariants.{Taken}
 use Rattle.nr_core.specs.Laws.{IsTaken}
 use Rattle.nr_core.specs.inside.Reached.{request_made, At, call_at, RepliesTo, Behind, calls_of, Shared, shared_in, FitsStage, open_in, waiting_in}
 use Rattle.nr_core.specs.inside.Reached.{IsUnanswered, HasOpen, IsFresh, IsCollected, IsReplicaOf, AreCalls, AreCollected, IsReached}

@@ -4,12 +4,12 @@ use Rattle.std.specs.Prelude.{slice_set}
 use Rattle.std.specs.List.{IsDistinct}
 use Rattle.std.proofs.lemmas.List.{map-append}
 use Rattle.std.proofs.lemmas.Option.{none-some}
-use Rattle.vs_types.specs.declared.op.Action.{Action}
+use Rattle.vs_types.specs.declared.requests.op.Action.{Action}
 use Rattle.nr_trace.proofs.LawsOfLists.{In, in_either, distinct_append, option_distinct, in_map}
 use Rattle.nr_core.specs.State.{State, Thread, Replica, home, with_thread, with_replica}
 use Rattle.nr_core.specs.Steps.{with_update}
-use Rattle.nr_core.specs.declared.stage.Collected.{Collected}
-use Rattle.nr_core.specs.declared.stage.Stage.TheVariants.{Posted, Taken}
+use Rattle.nr_core.specs.declared.states.stage.Collected.{Collected}
+use Rattle.nr_core.specs.declared.states.stage.Stage.TheVariants.{Posted, Taken}
 use Rattle.nr_core.specs.inside.Reached.{At, shared_in, FitsStage, IsCollected, open_in, waiting_in, IsReached}
 use Rattle.nr_core.proofs.reached.Places.{at_set}
 use Rattle.nr_core.proofs.reached.Changes.{thread_changes, replica_changes, still_collected, collected_keep}

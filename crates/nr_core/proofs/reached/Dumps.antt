@@ -16,8 +16,8 @@ use Rattle.nr_trace.specs.Recording.{IsThere}
 use Rattle.nr_trace.specs.Calls.{Invocation}
 use Rattle.nr_trace.specs.Orders.{space_after}
 use Rattle.nr_trace.specs.Faults.{HasFault}
-use Rattle.nr_trace.specs.declared.version.Version.{Version}
-use Rattle.nr_trace.specs.declared.fault.Fault.TheVariants.{PrefixPastLog, PrefixShort, StrayFrame, Differs}
+use Rattle.nr_trace.specs.declared.formats.version.Version.{Version}
+use Rattle.nr_trace.specs.declared.refusals.fault.Fault.TheVariants.{PrefixPastLog, PrefixShort, StrayFrame, Differs}
 use Rattle.nr_core.specs.State.{State, Replica}
 use Rattle.nr_core.specs.Run.{IsDumpOfReplica}
 use Rattle.nr_core.specs.inside.Reached.{At, calls_of, IsReached}

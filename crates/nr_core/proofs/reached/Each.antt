@@ -4,13 +4,13 @@ use Rattle.std.proofs.Common.{Option, Some, None, option_and_then, refl, eqb-tru
 use Rattle.std.specs.Prelude.{⊤, find, is_none, if◌then◌else◌, unwrap_or}
 use Rattle.std.proofs.lemmas.Bool.{and_parts, leb-true, ltb-true, not-true}
 use Rattle.vs_types.specs.declared.log_entry.LogEntry.{LogEntry}
-use Rattle.vs_types.specs.declared.op.Action.{Action}
-use Rattle.vs_types.specs.declared.request.Query.{Query}
-use Rattle.vs_types.specs.declared.request.Query.TheVariants.{Update, Resolve, Access}
+use Rattle.vs_types.specs.declared.requests.op.Action.{Action}
+use Rattle.vs_types.specs.declared.requests.request.Query.{Query}
+use Rattle.vs_types.specs.declared.requests.request.Query.TheVariants.{Update, Resolve, Access}
 use Rattle.nr_trace.specs.Calls.{operation_in}
 use Rattle.nr_trace.specs.Orders.{answer_in}
-use Rattle.nr_trace.specs.declared.event.Event.TheVariants as events
-use Rattle.nr_trace.specs.declared.event.Asked.TheVariants as askeds
+use Rattle.nr_trace.specs.declared.recordings.event.Event.TheVariants as events
+use Rattle.nr_trace.specs.declared.recordings.event.Asked.TheVariants as askeds
 use Rattle.nr_trace.proofs.LawsOfLists.{In}
 use Rattle.nr_core.specs.Run.{after_steps}
 use Rattle.nr_core.specs.State.{State, Thread, Replica, home, tail, has_applied_all, with_thread, with_replica}
@@ -18,13 +18,13 @@ use Rattle.nr_core.specs.Steps.{act, after_step, when, by_thread, by_holder, cal
 use Rattle.nr_core.specs.Steps.{with_update}
 use Rattle.nr_core.specs.Steps.{append, may_append, has_room, advance, apply, with_entry, answer, noted_for, with_answer, without, release, look, with_look}
 use Rattle.nr_core.specs.Steps.{read, with_read, reply, reply_at}
-use Rattle.nr_core.specs.declared.stage.Answered.{Answered}
-use Rattle.nr_core.specs.declared.stage.Collected.{Collected}
-use Rattle.nr_core.specs.declared.stage.Stage.{Stage}
-use Rattle.nr_core.specs.declared.stage.Stage.TheVariants.{Idle, Called, Posted, Taken, Ready, Looked, HasRead}
-use Rattle.nr_core.specs.declared.step.Act.{Act}
-use Rattle.nr_core.specs.declared.step.Act.TheVariants.{Call, Post, Take, Collect, Append, Advance, Apply, Answer, Release, Look, Read, Reply}
-use Rattle.nr_core.specs.declared.step.Step.{Step}
+use Rattle.nr_core.specs.declared.states.stage.Answered.{Answered}
+use Rattle.nr_core.specs.declared.states.stage.Collected.{Collected}
+use Rattle.nr_core.specs.declared.states.stage.Stage.{Stage}
+use Rattle.nr_core.specs.declared.states.stage.Stage.TheVariants.{Idle, Called, Posted, Taken, Ready, Looked, HasRead}
+use Rattle.nr_core.specs.declared.runs.step.Act.{Act}
+use Rattle.nr_core.specs.declared.runs.step.Act.TheVariants.{Call, Post, Take, Collect, Append, Advance, Apply, Answer, Release, Look, Read, Reply}
+use Rattle.nr_core.specs.declared.runs.step.Step.{Step}
 use Rattle.nr_core.specs.inside.Reached.{At}
 use Rattle.nr_core.proofs.reached.Growth.{then_parts}
 use Rattle.nr_core.proofs.reached.Places.{found_in}

@@ -6,8 +6,8 @@ use Rattle.nr_trace.specs.Recording.{Recording}
 use Rattle.nr_trace.specs.Calls.{Response, reply_of}
 use Rattle.nr_trace.specs.Orders.{floor}
 use Rattle.nr_trace.specs.Faults.{HasFault, StandsAfter}
-use Rattle.nr_trace.specs.declared.version.Version.{Version}
-use Rattle.nr_trace.specs.declared.fault.Fault.TheVariants.{Early}
+use Rattle.nr_trace.specs.declared.formats.version.Version.{Version}
+use Rattle.nr_trace.specs.declared.refusals.fault.Fault.TheVariants.{Early}
 use Rattle.nr_trace.proofs.LawsOfCalls.{reply_event}
 use Rattle.nr_trace.proofs.LawsOfSteps.{floor_at_start, floor_after_reply, floor_after_other}
 use Rattle.nr_core.specs.State.{State}

@@ -5,7 +5,7 @@ use Rattle.std.specs.Prelude.{slice_set, is_none}
 use Rattle.std.proofs.lemmas.Bool.{cases_eq, false≢true}
 use Rattle.std.proofs.lemmas.Option.{same_Some, none-some}
 use Rattle.vs_types.specs.Config.{Layout}
-use Rattle.vs_types.specs.declared.request.Query.{Query}
+use Rattle.vs_types.specs.declared.requests.request.Query.{Query}
 use Rattle.nr_trace.proofs.LawsOfLists.{slice_get-set_other}
 use Rattle.nr_core.specs.Laws.{HasHolder, HoldsLockOf}
 use Rattle.nr_core.specs.Run.{IsReachable}

@@ -1,10 +1,10 @@
 -- Look.
 use Rattle.std.proofs.Common.{◌≡◌, ℕ, None, ap, sym, subst}
 use Rattle.std.proofs.lemmas.Option.{none-some}
-use Rattle.vs_types.specs.declared.request.Query.{Query}
+use Rattle.vs_types.specs.declared.requests.request.Query.{Query}
 use Rattle.nr_trace.specs.Calls.{operation_in}
 use Rattle.nr_core.specs.State.{State, Thread, with_thread}
-use Rattle.nr_core.specs.declared.stage.Stage.TheVariants.{Called, Looked}
+use Rattle.nr_core.specs.declared.states.stage.Stage.TheVariants.{Called, Looked}
 use Rattle.nr_core.specs.inside.Reached.{At, shared_in, FitsStage, open_in, IsReached}
 use Rattle.nr_core.proofs.reached.Changes.{thread_changes, collected_keep}
 use Rattle.nr_core.proofs.reached.Growth.{behind_completed}

@@ -6,8 +6,8 @@ use Rattle.nr_core.specs.Laws.{answer_noted, IsTaken}
 use Rattle.nr_core.specs.Run.{IsReachable}
 use Rattle.nr_core.specs.State.{State, Thread, Replica}
 use Rattle.nr_core.specs.Steps.{answer, noted_for, with_answer, with_ready}
-use Rattle.nr_core.specs.declared.stage.Answered.{Answered}
-use Rattle.nr_core.specs.declared.stage.Collected.{Collected}
+use Rattle.nr_core.specs.declared.states.stage.Answered.{Answered}
+use Rattle.nr_core.specs.declared.states.stage.Collected.{Collected}
 use Rattle.nr_core.specs.inside.Reached.{At, IsReached}
 use Rattle.nr_core.proofs.reached.Places.{found_in}
 use Rattle.nr_core.proofs.reached.Growth.{then_parts}

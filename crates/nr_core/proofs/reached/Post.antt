@@ -1,9 +1,9 @@
 -- Post.
 use Rattle.std.proofs.Common.{◌≡◌, ℕ, ap, sym, ◌∙◌, subst}
-use Rattle.vs_types.specs.declared.op.Action.{Action}
-use Rattle.vs_types.specs.declared.request.Query.TheVariants.{Update}
+use Rattle.vs_types.specs.declared.requests.op.Action.{Action}
+use Rattle.vs_types.specs.declared.requests.request.Query.TheVariants.{Update}
 use Rattle.nr_core.specs.State.{State, Thread, with_thread}
-use Rattle.nr_core.specs.declared.stage.Stage.TheVariants.{Called, Posted}
+use Rattle.nr_core.specs.declared.states.stage.Stage.TheVariants.{Called, Posted}
 use Rattle.nr_core.specs.inside.Reached.{At, shared_in, FitsStage, open_in, waiting_in, IsReached}
 use Rattle.nr_core.proofs.reached.Changes.{thread_changes, collected_keep}
 

@@ -2,13 +2,13 @@
 use Rattle.std.proofs.Common.{◌≡◌, ℕ, ◌+◌, ◌≤◌, Option, None, refl, ap, sym, ◌∙◌, subst, arith}
 use Rattle.std.specs.Option.{option_map_or}
 use Rattle.std.proofs.lemmas.Option.{same_Some, none-some}
-use Rattle.vs_types.specs.declared.op.Action.{Action}
-use Rattle.vs_types.specs.declared.request.Query.{Query}
+use Rattle.vs_types.specs.declared.requests.op.Action.{Action}
+use Rattle.vs_types.specs.declared.requests.request.Query.{Query}
 use Rattle.nr_trace.specs.Calls.{operation_in}
 use Rattle.nr_trace.specs.Orders.{answer_in}
 use Rattle.nr_core.specs.State.{State, Thread, Replica, home, with_thread}
-use Rattle.nr_core.specs.declared.stage.Answered.{Answered}
-use Rattle.nr_core.specs.declared.stage.Stage.TheVariants.{Looked, HasRead}
+use Rattle.nr_core.specs.declared.states.stage.Answered.{Answered}
+use Rattle.nr_core.specs.declared.states.stage.Stage.TheVariants.{Looked, HasRead}
 use Rattle.nr_core.specs.inside.Reached.{At, made_of, reach, Behind, shared_in, FitsStage, IsRight, IsReplicaOf, open_in, IsReached}
 use Rattle.nr_core.proofs.reached.Changes.{thread_changes, collected_keep}
 use Rattle.nr_core.proofs.reached.Growth.{behind_more}

@@ -4,14 +4,14 @@ use Rattle.std.proofs.Common.{sym, subst, arith}
 use Rattle.std.specs.List.{IsDistinct, AllZip}
 use Rattle.std.specs.Option.{option_map_or}
 use Rattle.std.proofs.lemmas.Option.{same_Some, none-some}
-use Rattle.vs_types.specs.declared.op.Action.{Action}
+use Rattle.vs_types.specs.declared.requests.op.Action.{Action}
 use Rattle.vs_walk.specs.Dump.{Image}
 use Rattle.nr_trace.specs.Recording.{Recording}
 use Rattle.nr_trace.specs.Calls.{Invocation, operation_in, request_in, unordered_in, Response, Answers}
 use Rattle.nr_trace.specs.Orders.{known_by}
-use Rattle.nr_trace.specs.declared.event.Asked.{Asked}
-use Rattle.nr_trace.specs.declared.event.Asked.TheVariants as askeds
-use Rattle.nr_trace.specs.declared.version.Version.{Version}
+use Rattle.nr_trace.specs.declared.recordings.event.Asked.{Asked}
+use Rattle.nr_trace.specs.declared.recordings.event.Asked.TheVariants as askeds
+use Rattle.nr_trace.specs.declared.formats.version.Version.{Version}
 use Rattle.nr_trace.proofs.LawsOfCalls.{reply_that_answers, answers_from}
 use Rattle.nr_trace.proofs.LawsOfLists.{absent_not_in}
 use Rattle.nr_core.specs.State.{State}

@@ -2,13 +2,13 @@
 use Rattle.std.proofs.Common.{◌≡◌, ℕ, ◌<◌, ◌⊎◌, inl, inr, List, [], ◌∷◌, ◌++◌, length, Some, refl, ap, sym, ◌∙◌, subst}
 use Rattle.std.specs.Prelude.{slice_set}
 use Rattle.std.proofs.lemmas.Option.{same_Some, none-some}
-use Rattle.vs_types.specs.declared.request.Query.{Query}
+use Rattle.vs_types.specs.declared.requests.request.Query.{Query}
 use Rattle.nr_trace.specs.Calls.{Invocation, made_by, Response, reply_in}
-use Rattle.nr_trace.specs.declared.event.Event.{Event}
-use Rattle.nr_trace.specs.declared.event.Event.TheVariants as events
+use Rattle.nr_trace.specs.declared.recordings.event.Event.{Event}
+use Rattle.nr_trace.specs.declared.recordings.event.Event.TheVariants as events
 use Rattle.nr_core.specs.State.{State, Thread, with_thread}
-use Rattle.nr_core.specs.declared.stage.Answered.{Answered}
-use Rattle.nr_core.specs.declared.stage.Stage.TheVariants.{Idle, Ready, HasRead, Taken}
+use Rattle.nr_core.specs.declared.states.stage.Answered.{Answered}
+use Rattle.nr_core.specs.declared.states.stage.Stage.TheVariants.{Idle, Ready, HasRead, Taken}
 use Rattle.nr_core.specs.inside.Reached.{At, call_at, RepliesTo, made_of, shared_in, FitsStage, IsRight, open_in, IsUnanswered, HasOpen, AreCalls, IsReached}
 use Rattle.nr_core.proofs.reached.Growth.{Longer, read_within, read_stays}
 use Rattle.nr_core.proofs.reached.Events.{one_longer, answer_last, last_read, calls_go_on, event_recorded}

@@ -3,10 +3,10 @@ use Rattle.std.proofs.Common.{◌≡◌, ℕ, zero, suc, List, [], ◌∷◌, ma
 use Rattle.std.specs.List.{IsDistinct}
 use Rattle.std.proofs.lemmas.Option.{same_Some, none-some}
 use Rattle.vs_types.specs.Config.{Layout}
-use Rattle.vs_types.specs.declared.request.Query.{Query}
+use Rattle.vs_types.specs.declared.requests.request.Query.{Query}
 use Rattle.nr_trace.proofs.LawsOfLists.{option_distinct}
 use Rattle.nr_core.specs.State.{Thread, Replica, new_thread, new_replica, start}
-use Rattle.nr_core.specs.declared.stage.Stage.TheVariants.{Idle}
+use Rattle.nr_core.specs.declared.states.stage.Stage.TheVariants.{Idle}
 use Rattle.nr_core.specs.inside.Reached.{At, shared_in, FitsStage, open_in, waiting_in, IsReplicaOf, IsReached}
 
 at_map_idle : (scripts : List (List Query)) (t : ℕ) (thread : Thread) → At (map new_thread scripts) t thread → Idle ≡ thread.stage
@@ -39,6 +39,6 @@ start_is_reached layout scripts = record {
   batches = λ r replica e. subst (λ (x : Replica). IsDistinct nat_eq (map (λ update. update.entry.call) x.batch)) (at_replicate layout.replicas r replica e)
       (option_distinct None);
 } where
-  none_in : (r : ℕ) (replica : Replica) (update : Rattle.nr_core.specs.declared.stage.Collected.Collected) → new_replica ≡ replica
+  none_in : (r : ℕ) (replica : Replica) (update : Rattle.nr_core.specs.declared.states.stage.Collected.Collected) → new_replica ≡ replica
       → Rattle.nr_trace.proofs.LawsOfLists.In update replica.batch → ⊥
   none_in r replica update e i = subst (λ (x : Replica). Rattle.nr_trace.proofs.LawsOfLists.In update x.batch) (sym e) i

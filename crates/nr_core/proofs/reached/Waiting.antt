@@ -1,13 +1,13 @@
 -- Calls that are open, and the updates of batches.
 use Rattle.std.proofs.Common.{◌≡◌, ℕ, slice_get, Some, refl, ap, sym, ◌∙◌}
 use Rattle.std.proofs.lemmas.Option.{same_Some, none-some}
-use Rattle.vs_types.specs.declared.request.Query.TheVariants.{Update}
+use Rattle.vs_types.specs.declared.requests.request.Query.TheVariants.{Update}
 use Rattle.nr_trace.specs.Calls.{Invocation}
 use Rattle.nr_trace.proofs.LawsOfLists.{In}
 use Rattle.nr_core.specs.State.{State, Thread, Replica}
-use Rattle.nr_core.specs.declared.stage.Collected.{Collected}
-use Rattle.nr_core.specs.declared.stage.Stage.{Stage}
-use Rattle.nr_core.specs.declared.stage.Stage.TheVariants.{Called, Posted, Taken}
+use Rattle.nr_core.specs.declared.states.stage.Collected.{Collected}
+use Rattle.nr_core.specs.declared.states.stage.Stage.{Stage}
+use Rattle.nr_core.specs.declared.states.stage.Stage.TheVariants.{Called, Posted, Taken}
 use Rattle.nr_core.specs.inside.Reached.{At, call_at, made_of, open_in, waiting_in, IsReached}
 
 -- a waiting call is open

@@ -1,5 +1,5 @@
 -- The parts of a state that the fields of a core are.
-use Rattle.nr_core.specs.declared.state.Core.TheInside.{Inside}
+use Rattle.nr_core.specs.declared.states.state.Core.TheInside.{Inside}
 use Rattle.nr_core.specs.inside.Parts.{Parts}
 
 abbrev pub parts_in : Inside → Parts

@@ -4,20 +4,20 @@ use Rattle.std.specs.Global.{Vec}
 use Rattle.vs_types.specs.Config.{Layout}
 use Rattle.vs_types.specs.Operation.{IsAction}
 use Rattle.vs_types.specs.Query.{IsQuery}
-use Rattle.vs_types.specs.declared.depth.Depth.{Depth}
-use Rattle.vs_types.specs.declared.request.Query.{Query}
-use Rattle.vs_types.specs.declared.request.Query.TheVariants.{Update}
+use Rattle.vs_types.specs.declared.addresses.depth.Depth.{Depth}
+use Rattle.vs_types.specs.declared.requests.request.Query.{Query}
+use Rattle.vs_types.specs.declared.requests.request.Query.TheVariants.{Update}
 use Rattle.vs_types.specs.declared.limits.TheConstants.{LOG_PLACES, CALLS}
 use Rattle.vs_types.specs.declared.log_entry.LogEntry.{LogEntry}
 use Rattle.nr_trace.specs.Recording.{IsEvent}
-use Rattle.nr_trace.specs.declared.event.Event.{Event}
-use Rattle.nr_trace.specs.declared.version.Version.TheVariants.{V2}
+use Rattle.nr_trace.specs.declared.recordings.event.Event.{Event}
+use Rattle.nr_trace.specs.declared.formats.version.Version.TheVariants.{V2}
 use Rattle.nr_core.specs.State.{State, Thread, Replica}
-use Rattle.nr_core.specs.declared.parts.ThreadState.{ThreadState}
-use Rattle.nr_core.specs.declared.parts.ReplicaState.{ReplicaState}
-use Rattle.nr_core.specs.declared.parts.Marks.{Marks}
-use Rattle.nr_core.specs.declared.stage.Stage.{Stage}
-use Rattle.nr_core.specs.declared.stage.Stage.TheVariants.{Idle, Called, Posted, Taken, Ready, Looked, HasRead}
+use Rattle.nr_core.specs.declared.states.parts.ThreadState.{ThreadState}
+use Rattle.nr_core.specs.declared.states.parts.ReplicaState.{ReplicaState}
+use Rattle.nr_core.specs.declared.states.parts.Marks.{Marks}
+use Rattle.nr_core.specs.declared.states.stage.Stage.{Stage}
+use Rattle.nr_core.specs.declared.states.stage.Stage.TheVariants.{Idle, Called, Posted, Taken, Ready, Looked, HasRead}
 
 abbrev pub thread_in : ThreadState → Thread
 thread_in t = record { script = drop t.made t.script.items; stage = t.stage; holds = t.holds }

@@ -5,23 +5,23 @@ use Rattle.std.specs.List.{IsDistinct}
 use Rattle.vs_types.specs.Config.{Layout}
 use Rattle.vs_types.specs.Space.{Space, no_pages}
 use Rattle.vs_types.specs.Step.{after_all}
-use Rattle.vs_types.specs.declared.answer.Answer.{Answer}
+use Rattle.vs_types.specs.declared.requests.answer.Answer.{Answer}
 use Rattle.vs_types.specs.declared.log_entry.LogEntry.{LogEntry}
-use Rattle.vs_types.specs.declared.op.Action.{Action}
-use Rattle.vs_types.specs.declared.request.Query.{Query}
-use Rattle.vs_types.specs.declared.request.Query.TheVariants.{Update, Resolve, Access}
+use Rattle.vs_types.specs.declared.requests.op.Action.{Action}
+use Rattle.vs_types.specs.declared.requests.request.Query.{Query}
+use Rattle.vs_types.specs.declared.requests.request.Query.TheVariants.{Update, Resolve, Access}
 use Rattle.nr_trace.specs.Calls.{Invocation, made_by, operation_in, Response, reply_in}
 use Rattle.nr_trace.specs.Orders.{answer_in}
-use Rattle.nr_trace.specs.declared.event.Event.{Event}
-use Rattle.nr_trace.specs.declared.event.Asked.{Asked}
-use Rattle.nr_trace.specs.declared.event.Asked.TheVariants as askeds
+use Rattle.nr_trace.specs.declared.recordings.event.Event.{Event}
+use Rattle.nr_trace.specs.declared.recordings.event.Asked.{Asked}
+use Rattle.nr_trace.specs.declared.recordings.event.Asked.TheVariants as askeds
 use Rattle.nr_trace.proofs.LawsOfLists.{In}
 use Rattle.nr_core.specs.State.{State, Thread, Replica}
 use Rattle.nr_core.specs.Laws.{IsTaken}
-use Rattle.nr_core.specs.declared.stage.Answered.{Answered}
-use Rattle.nr_core.specs.declared.stage.Collected.{Collected}
-use Rattle.nr_core.specs.declared.stage.Stage.{Stage}
-use Rattle.nr_core.specs.declared.stage.Stage.TheVariants.{Idle, Called, Posted, Taken, Ready, Looked, HasRead}
+use Rattle.nr_core.specs.declared.states.stage.Answered.{Answered}
+use Rattle.nr_core.specs.declared.states.stage.Collected.{Collected}
+use Rattle.nr_core.specs.declared.states.stage.Stage.{Stage}
+use Rattle.nr_core.specs.declared.states.stage.Stage.TheVariants.{Idle, Called, Posted, Taken, Ready, Looked, HasRead}
 
 -- the list has the element at the index
 abbrev pub At : {X : Type 0} → List X → ℕ → X → Type 0

@@ -4,11 +4,11 @@ use Rattle.vs_types.specs.Operation.{IsAction}
 use Rattle.vs_types.specs.Query.{IsQuery}
 use Rattle.vs_types.specs.declared.limits.TheConstants.{LOG_PLACES}
 use Rattle.vs_types.specs.declared.log_entry.LogEntry.{LogEntry}
-use Rattle.vs_types.specs.declared.request.Query.{Query}
+use Rattle.vs_types.specs.declared.requests.request.Query.{Query}
 use Rattle.nr_core.specs.State.{State, Thread, Replica}
-use Rattle.nr_core.specs.declared.stage.Stage.{Stage}
-use Rattle.nr_core.specs.declared.stage.Stage.TheVariants.{Idle}
-use Rattle.nr_core.specs.declared.parts.ReplicaState.{ReplicaState}
+use Rattle.nr_core.specs.declared.states.stage.Stage.{Stage}
+use Rattle.nr_core.specs.declared.states.stage.Stage.TheVariants.{Idle}
+use Rattle.nr_core.specs.declared.states.parts.ReplicaState.{ReplicaState}
 use Rattle.nr_core.specs.inside.Parts.{replica_in, IsStage, stage_left, IsReplica}
 
 -- the thread is at this stage, which is well formed

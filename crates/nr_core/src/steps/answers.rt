@@ -7,8 +7,8 @@ ghost use Rattle.nr_core.specs.Steps as steps;
 ghost use Rattle.nr_core.specs.inside.Parts.{FitsRead};
 ghost use Rattle.nr_core.specs.inside.Views.{IsOpen};
 
-use crate::stage::{Answered, Stage};
-use crate::state::Core;
+use crate::states::stage::{Answered, Stage};
+use crate::states::state::Core;
 use nr_trace::Recorded;
 use vs_types::{Answer, Memory, Query, Request};
 

@@ -9,10 +9,10 @@ ghost use Rattle.nr_core.specs.Steps as steps;
 ghost use Rattle.nr_core.specs.inside.Parts.{replica_in, IsReplica};
 ghost use Rattle.nr_core.specs.inside.Views.{MayApply};
 
-use crate::batch::{find_noted, keep_others, note};
-use crate::parts::ReplicaState;
-use crate::stage::{Answered, Collected};
-use crate::state::Core;
+use crate::runs::batch::{find_noted, keep_others, note};
+use crate::states::parts::ReplicaState;
+use crate::states::stage::{Answered, Collected};
+use crate::states::state::Core;
 use vs_types::LogEntry;
 
 /// The entry at the place that a replica has come to is applied, and its answer noted in the batch.

@@ -8,10 +8,10 @@ ghost use Rattle.nr_core.specs.Steps as steps;
 ghost use Rattle.nr_core.specs.inside.Views.{IsEntry};
 ghost use Rattle.vs_types.specs.declared.limits.TheConstants.{LOG_PLACES};
 
-use crate::batch::{keep_up, push_entries};
-use crate::parts::Marks;
-use crate::stage::{Collected, Stage};
-use crate::state::Core;
+use crate::runs::batch::{keep_up, push_entries};
+use crate::states::parts::Marks;
+use crate::states::stage::{Collected, Stage};
+use crate::states::state::Core;
 use vs_types::{LOG_PLACES, LogEntry, Memory, RING};
 
 impl Core {

@@ -4,8 +4,8 @@ ghost use Rattle.nr_core.specs.Run.{IsStepped};
 ghost use Rattle.nr_core.specs.Steps as steps;
 ghost use Rattle.nr_core.specs.inside.Views.{MayCall};
 
-use crate::stage::Stage;
-use crate::state::Core;
+use crate::states::stage::Stage;
+use crate::states::state::Core;
 use nr_trace::{Asked, Event, Recorded};
 use vs_types::{Memory, Query, Request};
 

@@ -2,8 +2,8 @@
 ghost use Rattle.nr_core.specs.Run.{IsStepped};
 ghost use Rattle.nr_core.specs.Steps as steps;
 
-use crate::parts::Marks;
-use crate::state::Core;
+use crate::states::parts::Marks;
+use crate::states::state::Core;
 
 impl Core {
     /// The thread, which holds no lock, takes that of a replica, which is free.

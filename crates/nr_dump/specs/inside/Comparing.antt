@@ -1,8 +1,8 @@
 -- Inside the comparison of a dump's pages with those of a space. No public clause cites this.
 use Rattle.std.specs.Prelude.{◌≡◌, ◌≢◌, ℕ, List, [], ◌∷◌, ◌++◌, Option, Some, None, Contains, min}
 use Rattle.vs_types.specs.Entry.{all_rights}
-use Rattle.vs_types.specs.declared.page.Page.{Page}
-use Rattle.vs_types.specs.declared.page.Size.TheVariants.{K4}
+use Rattle.vs_types.specs.declared.addresses.page.Page.{Page}
+use Rattle.vs_types.specs.declared.addresses.page.Size.TheVariants.{K4}
 
 -- the two lists do not begin with the same page, and this is the lesser base of their first pages
 abbrev pub HeadsDiffer : List Page → List Page → ℕ → Type 0

@@ -3,7 +3,7 @@ use Rattle.std.specs.Prelude.{◌≡◌, ℕ, ◌+◌, ◌-◌, ◌<◌, ◌^◌
 use Rattle.nr_trace.specs.FirstFault.{unit_size}
 use Rattle.nr_trace.specs.Feed.{Fed, HasNoFaultYet}
 use Rattle.nr_trace.specs.Feed.Fed.{Taken, Stopped}
-use Rattle.nr_trace.specs.declared.refusal.Refusal.{Refusal}
+use Rattle.nr_trace.specs.declared.refusals.refusal.Refusal.{Refusal}
 use Rattle.nr_explain.specs.Fields.{field_fault}
 use Rattle.nr_explain.specs.declared.ends.Ends.{Ends}
 use Rattle.nr_explain.specs.declared.ends.TheConstants.{TAIL_BYTES}

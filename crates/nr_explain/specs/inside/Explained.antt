@@ -1,7 +1,7 @@
 -- What an explanation says of a trace. No public clause cites this file.
 use Rattle.nr_trace.specs.Recording.{Recording}
 use Rattle.nr_audit.specs.Verdict.{IsVerdictOn}
-use Rattle.nr_audit.specs.declared.verdict.Verdict.TheVariants as verdicts
+use Rattle.nr_audit.specs.declared.verdicts.verdict.Verdict.TheVariants as verdicts
 use Rattle.nr_explain.specs.Counts.{IsCountOf}
 use Rattle.nr_explain.specs.Evidence.{IsEvidence}
 use Rattle.nr_explain.specs.declared.trace.explaining.Explanation.{Explanation}

@@ -5,17 +5,17 @@ use Rattle.nr_trace.specs.Recording.{Recording}
 use Rattle.nr_trace.specs.Feed.{FedSegment, IsWhole}
 use Rattle.nr_trace.specs.Feed.Fed.{Taken}
 use Rattle.nr_trace.specs.FirstFault.{HasFaultAs}
-use Rattle.nr_trace.specs.declared.fault.Format.TheVariants.{Truncated}
-use Rattle.nr_trace.specs.declared.version.Form.TheVariants as forms
+use Rattle.nr_trace.specs.declared.refusals.fault.Format.TheVariants.{Truncated}
+use Rattle.nr_trace.specs.declared.formats.version.Form.TheVariants as forms
 use Rattle.nr_audit.specs.Start.{first_space, start_space, BeginsRight}
-use Rattle.nr_audit.specs.declared.past.Past.{Past}
+use Rattle.nr_audit.specs.declared.histories.past.Past.{Past}
 use Rattle.nr_joined.specs.Run.{Run, end_of}
 use Rattle.nr_touch.specs.Tails.{AreSound, IsSoundTail, IsTailOfRun}
 use Rattle.nr_touch.specs.declared.touches.tail.Left.{Left}
 use Rattle.nr_touch.specs.declared.touches.tail.Tail.{Tail}
 use Rattle.vs_types.specs.Config.{Layout}
 use Rattle.vs_types.specs.Space.{Space, pages}
-use Rattle.nr_trace.specs.declared.fault.Fault.{Fault}
+use Rattle.nr_trace.specs.declared.refusals.fault.Fault.{Fault}
 use Rattle.nr_audit.specs.Segments.{FitsLayout}
 use Rattle.nr_explain.specs.Progress.{ChainState, Seen, nothing_yet, IsSeenOf}
 use Rattle.nr_explain.specs.ChainEvidence.{IsShown}

@@ -3,7 +3,7 @@ use Rattle.std.specs.Prelude.{◌≡◌, ◌≢◌, ℕ, ◌+◌, ◌<◌, ◌�
 use Rattle.nr_trace.specs.Recording.{Recording}
 use Rattle.nr_trace.specs.Calls.{Answers, Invocation, IsCall, Response, call_of, reply_of}
 use Rattle.nr_trace.specs.Orders.{floor, known_by}
-use Rattle.nr_trace.specs.declared.fault.Fault.{Fault}
+use Rattle.nr_trace.specs.declared.refusals.fault.Fault.{Fault}
 use Rattle.nr_explain.specs.Dumps.{HasSoundDump, IsFirstOfItsDump, replica_of}
 use Rattle.nr_explain.specs.Facts.{IsCallOf, IsReplyOf, response}
 use Rattle.nr_explain.specs.declared.trace.evidence.RecordedCall.{RecordedCall}

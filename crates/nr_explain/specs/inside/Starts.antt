@@ -1,12 +1,12 @@
 -- What shows a fault of the tables of a start. No public clause cites this file.
 use Rattle.std.specs.Prelude.{◌≡◌, None, Bool, true, false}
-use Rattle.vs_types.specs.declared.depth.Depth.{Depth}
+use Rattle.vs_types.specs.declared.addresses.depth.Depth.{Depth}
 use Rattle.vs_walk.specs.Differences.{IsStray, HasMissingFrame, HasReservedBit, HasSharedFrame, HasStrayFrame}
 use Rattle.vs_walk.specs.Dump.{Image}
 use Rattle.vs_walk.specs.Traversal.{walk_fault}
 use Rattle.nr_audit.specs.Start.{HasPageBeyond}
-use Rattle.nr_trace.specs.declared.fault.Fault.{Fault}
-use Rattle.nr_trace.specs.declared.fault.Fault.TheVariants.{StartMissing, StartShared, StartReserved, StartStray, StartBeyond, StartDiffers, Stale, Reachable}
+use Rattle.nr_trace.specs.declared.refusals.fault.Fault.{Fault}
+use Rattle.nr_trace.specs.declared.refusals.fault.Fault.TheVariants.{StartMissing, StartShared, StartReserved, StartStray, StartBeyond, StartDiffers, Stale, Reachable}
 use Rattle.nr_explain.specs.ChainEvidence.{IsStartBeyond}
 use Rattle.nr_explain.specs.Evidence.{IsMissingTable, IsReservedEntry, IsSharedTable}
 use Rattle.nr_explain.specs.declared.trace.evidence.Owner.TheVariants as owners

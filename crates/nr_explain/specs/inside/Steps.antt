@@ -3,13 +3,13 @@ use Rattle.std.specs.Prelude.{◌≡◌, ℕ, ◌<◌, ◌≤◌, List, [], ◌+
 use Rattle.nr_trace.specs.Recording.{Recording}
 use Rattle.nr_trace.specs.FirstFault.{HasSegmentFault}
 use Rattle.nr_trace.specs.Spelling.{SpellsSegment}
-use Rattle.nr_trace.specs.declared.fault.Format.TheVariants.{Truncated}
+use Rattle.nr_trace.specs.declared.refusals.fault.Format.TheVariants.{Truncated}
 use Rattle.nr_audit.specs.Faults.{IsFirstAfter, IsSoundAfter}
 use Rattle.nr_audit.specs.Met.{HasMet}
 use Rattle.nr_audit.specs.Start.{begins_in}
-use Rattle.nr_audit.specs.declared.met.Met.{Met}
-use Rattle.nr_trace.specs.declared.fault.Fault.TheVariants as faults
-use Rattle.nr_trace.specs.declared.fault.Format.{Format}
+use Rattle.nr_audit.specs.declared.histories.met.Met.{Met}
+use Rattle.nr_trace.specs.declared.refusals.fault.Fault.TheVariants as faults
+use Rattle.nr_trace.specs.declared.refusals.fault.Format.{Format}
 use Rattle.nr_explain.specs.Progress.{ChainState, ReaderState, state_after, layout_in, run_in, sums_in, IsSeenOf}
 use Rattle.nr_explain.specs.ChainExplanation.{Explains, IsBadSegment, IsExplanationFrom, IsShownBehind}
 use Rattle.nr_explain.specs.declared.chain.evidence.SegmentEvidence.TheVariants as evidence

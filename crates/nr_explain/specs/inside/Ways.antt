@@ -2,7 +2,7 @@
 use Rattle.std.specs.Prelude.{◌≡◌, ◌≢◌, ℕ, ◌<◌, Bool, true, false, List, ◌++◌, length, slice_index, Some, IfSome}
 use Rattle.std.specs.FinMap as finite
 use Rattle.vs_types.specs.Entry.{meaning}
-use Rattle.vs_types.specs.declared.entry.Meaning.TheVariants as entry
+use Rattle.vs_types.specs.declared.entries.entry.Meaning.TheVariants as entry
 use Rattle.vs_walk.specs.Memory.{Memory}
 use Rattle.nr_explain.specs.Facts.{IsPath}
 use Rattle.nr_explain.specs.declared.trace.evidence.TableEntry.{TableEntry}

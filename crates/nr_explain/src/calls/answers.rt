@@ -2,7 +2,7 @@
 
 ghost use Rattle.std.specs.Prelude.{◌≡◌, IfOk};
 ghost use Rattle.nr_trace.specs.Faults.{IsFirst};
-ghost use Rattle.nr_trace.specs.declared.fault.Fault.TheVariants.{WrongAnswer};
+ghost use Rattle.nr_trace.specs.declared.refusals.fault.Fault.TheVariants.{WrongAnswer};
 ghost use Rattle.nr_explain.specs.Evidence.{IsOtherAnswer};
 ghost use Rattle.nr_explain.specs.Facts.{address_about, asked_address};
 

@@ -3,7 +3,7 @@
 ghost use Rattle.std.specs.Prelude.{◌≡◌, ◌<◌, ℕ};
 ghost use Rattle.nr_trace.specs.Faults.{IsFirst, StandsAfter};
 ghost use Rattle.nr_trace.specs.Laws.{HasCleanLog};
-ghost use Rattle.nr_trace.specs.declared.fault.Fault.TheVariants.{Early, PrefixShort};
+ghost use Rattle.nr_trace.specs.declared.refusals.fault.Fault.TheVariants.{Early, PrefixShort};
 ghost use Rattle.nr_explain.specs.Dumps.{IsFirstOfItsDump};
 ghost use Rattle.nr_explain.specs.Evidence.{IsEarly, IsShortPrefix};
 

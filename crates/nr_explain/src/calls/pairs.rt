@@ -2,7 +2,7 @@
 
 ghost use Rattle.std.specs.Prelude.{◌≡◌};
 ghost use Rattle.nr_trace.specs.Faults.{IsFirst};
-ghost use Rattle.nr_trace.specs.declared.fault.Fault.TheVariants.{ThreadOpen, NoSuchCall, AnsweredTwice};
+ghost use Rattle.nr_trace.specs.declared.refusals.fault.Fault.TheVariants.{ThreadOpen, NoSuchCall, AnsweredTwice};
 ghost use Rattle.nr_explain.specs.Evidence.{AreOpen, AreTwoReplies, IsStrayReply};
 
 use crate::search::events::{call_at, event_at, reply_at};

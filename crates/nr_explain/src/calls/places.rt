@@ -2,7 +2,7 @@
 
 ghost use Rattle.std.specs.Prelude.{◌≡◌, ◌<◌, ◌≤◌, ◌^◌, length};
 ghost use Rattle.nr_trace.specs.Faults.{IsFirst};
-ghost use Rattle.nr_trace.specs.declared.fault.Fault.TheVariants.{NotAnUpdate, NotPlaced, PastLog, PlacedTwice};
+ghost use Rattle.nr_trace.specs.declared.refusals.fault.Fault.TheVariants.{NotAnUpdate, NotPlaced, PastLog, PlacedTwice};
 ghost use Rattle.nr_explain.specs.Evidence.{AreTwoPlaces, IsFirstPlace, IsMisplaced, IsNoUpdate, IsPastEnd};
 
 use crate::search::events::{call_at, event_at, reply_at};

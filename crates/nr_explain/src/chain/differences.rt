@@ -2,7 +2,7 @@
 
 ghost use Rattle.std.specs.Prelude.{◌≡◌, IfOk};
 ghost use Rattle.nr_trace.specs.Faults.{HasDump, IsFirstFrom};
-ghost use Rattle.nr_trace.specs.declared.fault.Fault.TheVariants.{Differs};
+ghost use Rattle.nr_trace.specs.declared.refusals.fault.Fault.TheVariants.{Differs};
 ghost use Rattle.nr_audit.specs.Verdict.{space_of};
 ghost use Rattle.nr_explain.specs.Evidence.{IsDifferenceFrom};
 

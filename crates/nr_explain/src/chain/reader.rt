@@ -5,7 +5,7 @@ ghost use Rattle.nr_trace.specs.Feed.{IsWhole};
 ghost use Rattle.nr_trace.specs.Feed.Fed.{Taken};
 ghost use Rattle.nr_trace.specs.FirstFault.{HasFaultAs};
 ghost use Rattle.nr_trace.specs.Versions.{Follows};
-ghost use Rattle.nr_trace.specs.declared.version.Form.{Form};
+ghost use Rattle.nr_trace.specs.declared.formats.version.Form.{Form};
 ghost use Rattle.nr_explain.specs.Progress.{ChainState, IsSeenOf};
 ghost use Rattle.nr_explain.specs.ChainExplanation.{Explains, FeedsReader};
 ghost use Rattle.nr_explain.specs.inside.Reading.{all_states, layout_seen, AreTwice, FitsProgress, FitsSegment, IsKnown};
@@ -40,7 +40,7 @@ impl Model for ChainReader {
     ghost use Rattle.std.specs.Coded.{codes, coded_ℕ};
     ghost use Rattle.std.specs.FinMap as finite;
     ghost use Rattle.std.specs.Ordering.{nat_cmp};
-    ghost use Rattle.vs_types.specs.contracts.page.Page as page_contract;
+    ghost use Rattle.vs_types.specs.contracts.addresses.page.Page as page_contract;
     ghost use Rattle.nr_touch.specs.contracts.touches.tail.Tail as tail_contract;
     ghost use Rattle.nr_explain.specs.Progress.{ReaderState};
     ghost use Rattle.nr_explain.specs.inside.Reading.{all_states, IsReading};

@@ -4,7 +4,7 @@ ghost use Rattle.std.specs.Prelude.{◌≡◌, ◌≤◌, IfOk, Option, length};
 ghost use Rattle.nr_trace.specs.Feed.{IsWhole};
 ghost use Rattle.nr_trace.specs.Feed.Fed.{Taken};
 ghost use Rattle.nr_trace.specs.FirstFault.{HasRefusalAs};
-ghost use Rattle.nr_trace.specs.declared.version.Form.{Form};
+ghost use Rattle.nr_trace.specs.declared.formats.version.Form.{Form};
 ghost use Rattle.nr_explain.specs.Progress.{ChainState, IsSeenOf};
 ghost use Rattle.nr_explain.specs.ChainExplanation.{IsExplanationFrom};
 ghost use Rattle.nr_explain.specs.inside.Reading.{all_states, layout_seen};

@@ -2,8 +2,8 @@
 
 ghost use Rattle.std.specs.Prelude.{◌≡◌, ◌+◌, ◌<◌, ℕ, Contains, IfNone, IfOk, IfSome, None, Some, option_map};
 ghost use Rattle.vs_types.specs.Page.{bytes_of};
-ghost use Rattle.vs_types.specs.declared.page.Page.{Page as PageRow};
-ghost use Rattle.vs_types.specs.declared.page.TheConstants.Page.{PHYS_END};
+ghost use Rattle.vs_types.specs.declared.addresses.page.Page.{Page as PageRow};
+ghost use Rattle.vs_types.specs.declared.addresses.page.TheConstants.Page.{PHYS_END};
 ghost use Rattle.vs_walk.specs.Traversal.{walk_fault, found_in};
 ghost use Rattle.vs_walk.specs.Differences.{HasDifference};
 ghost use Rattle.nr_audit.specs.Start.{HasPageBeyond, HasStartFault};

@@ -2,8 +2,8 @@
 
 ghost use Rattle.std.specs.Prelude.{◌≡◌, ℕ, Contains, IfNone, IfOk, IfSome};
 ghost use Rattle.vs_types.specs.Page.{IsPage};
-ghost use Rattle.vs_types.specs.declared.depth.Depth.{Depth};
-ghost use Rattle.vs_types.specs.declared.page.Page.{Page as PageRow};
+ghost use Rattle.vs_types.specs.declared.addresses.depth.Depth.{Depth};
+ghost use Rattle.vs_types.specs.declared.addresses.page.Page.{Page as PageRow};
 ghost use Rattle.nr_explain.specs.Nearest.{named_memory, IsMemoryOf, IsWhere};
 ghost use Rattle.nr_explain.specs.inside.Nearest.{LeadsTo};
 

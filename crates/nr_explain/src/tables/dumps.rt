@@ -2,8 +2,8 @@
 
 ghost use Rattle.std.specs.Prelude.{◌≡◌, ◌≤◌, IfOk, length};
 ghost use Rattle.nr_trace.specs.Faults.{HasDump, HasFaultFrom};
-ghost use Rattle.nr_trace.specs.declared.fault.Fault.TheVariants.{Differs, MissingFrame, PrefixPastLog, ReservedBit, SharedFrame};
-ghost use Rattle.nr_trace.specs.declared.fault.Fault.TheVariants.{StrayFrame};
+ghost use Rattle.nr_trace.specs.declared.refusals.fault.Fault.TheVariants.{Differs, MissingFrame, PrefixPastLog, ReservedBit, SharedFrame};
+ghost use Rattle.nr_trace.specs.declared.refusals.fault.Fault.TheVariants.{StrayFrame};
 ghost use Rattle.nr_trace.specs.Recording.{IsRecording};
 ghost use Rattle.nr_audit.specs.Verdict.{space_of};
 ghost use Rattle.nr_explain.specs.Dumps.{IsFirstOfItsDump};

@@ -4,7 +4,7 @@ ghost use Rattle.std.specs.Prelude.{◌≡◌, ◌≤◌, ◌<◌, ◌↔◌, �
 ghost use Rattle.vs_types.specs.declared.limits.TheConstants.{MOST_LEVELS};
 ghost use Rattle.vs_types.specs.Depth.{levels};
 ghost use Rattle.nr_explain.specs.inside.Ways.{GoesNowhere, GoesOnTo, HasTwoWays, IsAnotherWay, IsMet, IsReservedAt, IsSearched};
-ghost use Rattle.vs_types.specs.declared.entry.Meaning.TheVariants.{Reserved};
+ghost use Rattle.vs_types.specs.declared.entries.entry.Meaning.TheVariants.{Reserved};
 ghost use Rattle.nr_explain.specs.Evidence.{IsRootPath, StepsLeadTo};
 ghost use Rattle.nr_explain.specs.Facts.{entries_read, HasReservedWord};
 ghost use Rattle.vs_types.specs.Bits.{IsLowestReservedBit};

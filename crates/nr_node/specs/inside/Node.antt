@@ -1,8 +1,8 @@
 -- What holds inside a node.
 use Rattle.std.specs.Prelude.{◌≡◌, ℕ, ◌+◌, List, Option, length, take}
-use Rattle.vs_types.specs.declared.depth.Depth.{Depth}
+use Rattle.vs_types.specs.declared.addresses.depth.Depth.{Depth}
 use Rattle.nr_ring.specs.Pass.{Known}
-use Rattle.nr_ring.specs.declared.view.View.{View}
+use Rattle.nr_ring.specs.declared.ring.view.View.{View}
 use Rattle.nr_slots.specs.Updates.{Waiting}
 use Rattle.nr_node.specs.Node.{NodeState, log_of, taken_by}
 use Rattle.nr_node.specs.inside.Replica.{ReplicaState}

@@ -1,9 +1,9 @@
 -- What holds inside a replica.
 use Rattle.std.specs.Prelude.{◌≡◌, ℕ, ◌+◌, ◌<◌, ◌≤◌, List, ◌++◌, Some, length, map, slice_get}
-use Rattle.vs_types.specs.declared.depth.Depth.{Depth}
+use Rattle.vs_types.specs.declared.addresses.depth.Depth.{Depth}
 use Rattle.vs_types.specs.declared.limits.TheConstants.{LOG_PLACES, RING, TABLES}
 use Rattle.vs_types.specs.declared.log_entry.LogEntry.{LogEntry}
-use Rattle.nr_ring.specs.declared.words.TheConstants.{MOST_PLACES}
+use Rattle.nr_ring.specs.declared.cells.words.TheConstants.{MOST_PLACES}
 use Rattle.vs_space.specs.Table.{PageTable, IsTableOf}
 use Rattle.nr_node.specs.Spaces.{answer_at, space_of}
 use Rattle.nr_node.specs.inside.Told.{Told}

@@ -1,13 +1,13 @@
 -- The faults that need no order, by where they are, while they are looked for. No public clause cites this file.
 use Rattle.std.specs.Prelude.{◌≡◌, ℕ, ◌<◌, Option, Some, None, ⊤}
 use Rattle.vs_types.specs.Space.{no_pages}
-use Rattle.vs_types.specs.declared.depth.Depth.{Depth}
+use Rattle.vs_types.specs.declared.addresses.depth.Depth.{Depth}
 use Rattle.vs_walk.specs.Dump.{Image}
 use Rattle.nr_dump.specs.Faults.{rank_in_dump, HoldsOfDump, IsFirstOfDump}
 use Rattle.nr_dump.specs.declared.fault.DumpFault.{DumpFault}
 use Rattle.nr_trace.specs.Recording.{Recording}
-use Rattle.nr_trace.specs.declared.fault.Fault.{Fault}
-use Rattle.nr_trace.specs.declared.fault.Fault.TheVariants.{ThreadOpen, NoSuchCall, AnsweredTwice, MissingFrame, SharedFrame, ReservedBit, StrayFrame}
+use Rattle.nr_trace.specs.declared.refusals.fault.Fault.{Fault}
+use Rattle.nr_trace.specs.declared.refusals.fault.Fault.TheVariants.{ThreadOpen, NoSuchCall, AnsweredTwice, MissingFrame, SharedFrame, ReservedBit, StrayFrame}
 use Rattle.nr_audit.specs.inside.Search.{HasNone, IsFirstAmong}
 
 -- a fault of the events by themselves

@@ -1,12 +1,12 @@
 -- What holds while the replicas are settled.
 use Rattle.std.specs.Prelude.{◌≡◌, ℕ, ◌+◌, ◌≤◌, List, [], ◌∷◌, All, ⊤}
 use Rattle.std.specs.List.{AllZip}
-use Rattle.vs_types.specs.declared.depth.Depth.{Depth}
+use Rattle.vs_types.specs.declared.addresses.depth.Depth.{Depth}
 use Rattle.vs_walk.specs.Dump.{Image}
 use Rattle.nr_ring.specs.LogHistory.{IsLogHistory, log_after, tail}
 use Rattle.nr_ring.specs.Pass.{Known}
 use Rattle.nr_ring.specs.View.{HasSeenAdvances, StartsWith}
-use Rattle.nr_ring.specs.declared.log_event.LogEvent.{LogEvent}
+use Rattle.nr_ring.specs.declared.ring.log_event.LogEvent.{LogEvent}
 use Rattle.nr_node.specs.Node.{NodeState, replica_of, taken_by}
 use Rattle.nr_replicas.specs.Replicas.{HasHeard}
 use Rattle.nr_replicas.specs.Settled.{IsDumpOf}

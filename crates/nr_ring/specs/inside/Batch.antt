@@ -7,13 +7,13 @@ use Rattle.nr_ring.specs.Pass.{tails_of}
 use Rattle.version_cell.specs.Passes.{CellPass}
 use Rattle.version_cell.specs.Words.{LiesIn}
 use Rattle.nr_ring.specs.Words.{Needs, link, stored_after, stored_words}
-use Rattle.nr_ring.specs.declared.log_event.LogEvent.{LogEvent}
-use Rattle.nr_ring.specs.declared.stored.Stored.{Stored}
-use Rattle.nr_ring.specs.declared.view.View.{View}
-use Rattle.nr_ring.specs.declared.tails.AppendFault.{AppendFault}
-use Rattle.nr_ring.specs.declared.tails.AppendFault.TheVariants.{LogEnded, Full, Moved}
+use Rattle.nr_ring.specs.declared.ring.log_event.LogEvent.{LogEvent}
+use Rattle.nr_ring.specs.declared.cells.stored.Stored.{Stored}
+use Rattle.nr_ring.specs.declared.ring.view.View.{View}
+use Rattle.nr_ring.specs.declared.ring.tails.AppendFault.{AppendFault}
+use Rattle.nr_ring.specs.declared.ring.tails.AppendFault.TheVariants.{LogEnded, Full, Moved}
 use Rattle.vs_types.specs.declared.limits.TheConstants.{RING}
-use Rattle.nr_ring.specs.declared.words.TheConstants.{COUNT_WORD, LAST_WORD, MOST_PLACES, RINGS, RING_WORDS}
+use Rattle.nr_ring.specs.declared.cells.words.TheConstants.{COUNT_WORD, LAST_WORD, MOST_PLACES, RINGS, RING_WORDS}
 
 -- the bound that bars so many entries from a log of so many places
 abbrev pub Bars : ℕ → Log → ℕ → AppendFault → Type 0

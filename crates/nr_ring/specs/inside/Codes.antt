@@ -3,8 +3,8 @@ use Rattle.std.specs.Prelude.{ℕ, zero, suc, ◌+◌, ◌-◌, ◌*◌, ◌/◌
 use Rattle.nr_ring.specs.LogHistory.{Log, local_of, log_after, tail}
 use Rattle.nr_ring.specs.Words.{last_ring}
 use Rattle.vs_types.specs.declared.limits.TheConstants.{REPLICAS, RING}
-use Rattle.nr_ring.specs.declared.words.TheConstants.{LAST_WORD, LOCAL_WORDS, RINGS}
-use Rattle.nr_ring.specs.declared.stored.Stored.{Stored}
+use Rattle.nr_ring.specs.declared.cells.words.TheConstants.{LAST_WORD, LOCAL_WORDS, RINGS}
+use Rattle.nr_ring.specs.declared.cells.stored.Stored.{Stored}
 
 -- how many entries fewer than the ring holds a replica has still to take; 0 for one that is absent
 abbrev pub room_of : ℕ → ℕ → Bool → ℕ

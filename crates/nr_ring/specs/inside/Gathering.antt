@@ -1,7 +1,7 @@
 -- A pass that gathers the replicas of others.
 use Rattle.std.specs.Prelude.{ℕ, ◌+◌, ◌==◌, Bool, true, ◌&&◌, not, if◌then◌else◌, List, [], ◌∷◌, ◌++◌}
 use Rattle.nr_ring.specs.Calls.{offshoot}
-use Rattle.nr_ring.specs.declared.view.View.{View}
+use Rattle.nr_ring.specs.declared.ring.view.View.{View}
 
 -- the list has no such number
 abbrev pub lacks : List ℕ → ℕ → Bool

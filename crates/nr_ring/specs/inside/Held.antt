@@ -2,16 +2,16 @@
 use Rattle.std.specs.List.{range_with_len}
 use Rattle.std.specs.Prelude.{◌≡◌, ℕ, ◌+◌, ◌-◌, ◌*◌, ◌<◌, ◌≤◌, ⊤, Bool, MatchBool, List, [], ◌∷◌, All, Option, None, Some, length, slice_index}
 use Rattle.version_cell.specs.Passes.{CellPass}
-use Rattle.vs_types.specs.declared.depth.Depth.{Depth}
+use Rattle.vs_types.specs.declared.addresses.depth.Depth.{Depth}
 use Rattle.vs_types.specs.declared.limits.TheConstants.{REPLICAS}
 use Rattle.nr_ring.specs.LogHistory.{IsLogHistory, Log, MayFollow, completed, local_of, log_after, log_after_event, tail}
 use Rattle.nr_ring.specs.View.{StartsWith}
 use Rattle.nr_ring.specs.Calls.{HasLooked, HasMoved, MayMake, with_event, with_events}
-use Rattle.nr_ring.specs.declared.log_event.LogEvent.{LogEvent}
-use Rattle.nr_ring.specs.declared.stored.Stored.{Stored}
-use Rattle.nr_ring.specs.declared.view.View.{View}
-use Rattle.nr_ring.specs.declared.tails.Tails.{Tails}
-use Rattle.nr_ring.specs.declared.words.TheConstants.{TAIL_WORD, COMPLETED_WORD, COUNT_WORD, LAST_WORD, LOCAL_WORDS, RINGS, RING_WORDS}
+use Rattle.nr_ring.specs.declared.ring.log_event.LogEvent.{LogEvent}
+use Rattle.nr_ring.specs.declared.cells.stored.Stored.{Stored}
+use Rattle.nr_ring.specs.declared.ring.view.View.{View}
+use Rattle.nr_ring.specs.declared.ring.tails.Tails.{Tails}
+use Rattle.nr_ring.specs.declared.cells.words.TheConstants.{TAIL_WORD, COMPLETED_WORD, COUNT_WORD, LAST_WORD, LOCAL_WORDS, RINGS, RING_WORDS}
 
 -- the replica that a pass owns, as a list
 abbrev pub owned : Option ℕ → List ℕ

@@ -1,7 +1,7 @@
 -- What is gathered of the lines of a script that comes in pieces.
 use Rattle.std.specs.Prelude.{◌≡◌, ◌<◌, ◌≤◌, ℕ, List, [], ◌∷◌, length, map, take, Option, Some, None, ⊤}
-use Rattle.vs_types.specs.declared.depth.Depth.{Depth}
-use Rattle.vs_types.specs.declared.request.Query.{Query}
+use Rattle.vs_types.specs.declared.addresses.depth.Depth.{Depth}
+use Rattle.vs_types.specs.declared.requests.request.Query.{Query}
 use Rattle.nr_script.specs.Portion.{AsksMore, PortionState, TakesLines, number_behind, request_count}
 use Rattle.nr_script.specs.Script.{step_in}
 use Rattle.nr_script.specs.declared.gathering.Gathering.{Gathering}

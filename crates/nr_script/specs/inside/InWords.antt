@@ -1,6 +1,6 @@
 -- What the words of a line say.
 use Rattle.std.specs.Prelude.{ℕ, List}
-use Rattle.vs_types.specs.declared.depth.Depth.{Depth}
+use Rattle.vs_types.specs.declared.addresses.depth.Depth.{Depth}
 use Rattle.nr_script.specs.Lines.{SpellsRequest, SpellsStep}
 use Rattle.nr_script.specs.declared.line.Line.{Line}
 use Rattle.nr_script.specs.declared.line.Line.TheVariants as says

@@ -2,8 +2,8 @@
 use Rattle.std.specs.Prelude.{◌≡◌, ℕ, ◌++◌, List, [], ◌∷◌, length, map, slice_index_or, slice_set, Option}
 use Rattle.std.specs.List.{range_with_len, AllZip}
 use Rattle.std.specs.Borrow.{Bor}
-use Rattle.vs_types.specs.declared.depth.Depth.{Depth}
-use Rattle.vs_types.specs.declared.request.Query.{Query}
+use Rattle.vs_types.specs.declared.addresses.depth.Depth.{Depth}
+use Rattle.vs_types.specs.declared.requests.request.Query.{Query}
 use Rattle.nr_script.specs.Lines.{lines, Says}
 use Rattle.nr_script.specs.Script.{asked, first_step_in, requests_by, steps_of, thread_count, IsWithinLimits}
 use Rattle.nr_script.specs.inside.Left.{parts_left}

@@ -2,18 +2,18 @@
 use Rattle.std.specs.Prelude.{◌≡◌, ℕ, ◌+◌, List, [], ◌∷◌, All, Some, flat_map, length, map, slice_get, take, ⊤}
 use Rattle.vs_types.specs.Config.{Layout}
 use Rattle.vs_types.specs.Step.{allow, look}
-use Rattle.vs_types.specs.declared.answer.Answer as answers
-use Rattle.vs_types.specs.declared.request.Query.{Query}
-use Rattle.vs_types.specs.declared.request.Query.TheVariants.{Update, Resolve, Access}
-use Rattle.nr_trace.specs.declared.event.Event.TheVariants.{Reply}
+use Rattle.vs_types.specs.declared.requests.answer.Answer as answers
+use Rattle.vs_types.specs.declared.requests.request.Query.{Query}
+use Rattle.vs_types.specs.declared.requests.request.Query.TheVariants.{Update, Resolve, Access}
+use Rattle.nr_trace.specs.declared.recordings.event.Event.TheVariants.{Reply}
 use Rattle.nr_ring.specs.LogHistory.{Log, IsLogHistory, log_after}
 use Rattle.nr_ring.specs.Pass.{Known, TableId}
 use Rattle.nr_replicas.specs.Replicas.{IsAnsweredAt, IsReadAt}
 use Rattle.nr_record.specs.Pen.{ClockId, PenState, call_by, stamped}
 use Rattle.nr_record.specs.declared.stamped.Stamped.{Stamped}
 use Rattle.nr_serve.specs.Run.{HasAllOrStopped, StopsLast}
-use Rattle.nr_serve.specs.declared.said.Said.{Said}
-use Rattle.nr_serve.specs.declared.said.Said.TheVariants.{Answer, Stopped}
+use Rattle.nr_serve.specs.declared.endings.said.Said.{Said}
+use Rattle.nr_serve.specs.declared.endings.said.Said.TheVariants.{Answer, Stopped}
 
 -- of which log the calls are, and the place from which on theirs are counted
 pub record Since : Type 0 where

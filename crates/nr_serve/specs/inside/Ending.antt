@@ -8,7 +8,7 @@ use Rattle.nr_record.specs.Events.{AreEventsOf}
 use Rattle.nr_record.specs.Pen.{PenState}
 use Rattle.nr_serve.specs.inside.Calls.{WorkerState}
 use Rattle.nr_serve.specs.Run.{IsLogOf}
-use Rattle.nr_serve.specs.declared.said.Said.{Said}
+use Rattle.nr_serve.specs.declared.endings.said.Said.{Said}
 
 abbrev pub pens_of : List WorkerState → List PenState
 pens_of workers = map (λ worker. worker.pen) workers

@@ -2,16 +2,16 @@
 use Rattle.std.specs.Prelude.{◌≡◌, ℕ, List, All, IfSome, Option, length, option_map}
 use Rattle.std.specs.List.{AllZip}
 use Rattle.vs_types.specs.Config.{Layout}
-use Rattle.vs_types.specs.declared.depth.Depth.{Depth}
-use Rattle.vs_types.specs.declared.request.Query.{Query}
+use Rattle.vs_types.specs.declared.addresses.depth.Depth.{Depth}
+use Rattle.vs_types.specs.declared.requests.request.Query.{Query}
 use Rattle.nr_audit.specs.Segments.{FitsPast}
-use Rattle.nr_audit.specs.declared.past.Past.{Past}
+use Rattle.nr_audit.specs.declared.histories.past.Past.{Past}
 use Rattle.nr_ring.specs.Pass.{Known}
 use Rattle.nr_record.specs.Pen.{ClockId, PenState}
 use Rattle.nr_replicas.specs.Replicas.{OpenState}
 use Rattle.nr_serve.specs.RunState.{RunState}
 use Rattle.nr_serve.specs.SegmentRun.{HasSeenMore}
-use Rattle.nr_serve.specs.declared.said.Said.{Said}
+use Rattle.nr_serve.specs.declared.endings.said.Said.{Said}
 use Rattle.nr_serve.specs.inside.Calls.{AreServed, Since, WorkerState}
 use Rattle.nr_serve.specs.inside.Ending.{answers_of, passes_of, pens_of}
 

@@ -1,15 +1,15 @@
 -- What the end of a segment begins with, and what comes of it.
 use Rattle.std.specs.Prelude.{◌≡◌, ℕ, List, Option}
 use Rattle.vs_types.specs.Config.{Layout}
-use Rattle.vs_types.specs.declared.depth.Depth.{Depth}
-use Rattle.vs_types.specs.declared.request.Query.{Query}
-use Rattle.nr_audit.specs.declared.past.Past.{Past}
+use Rattle.vs_types.specs.declared.addresses.depth.Depth.{Depth}
+use Rattle.vs_types.specs.declared.requests.request.Query.{Query}
+use Rattle.nr_audit.specs.declared.histories.past.Past.{Past}
 use Rattle.nr_ring.specs.Pass.{Known}
 use Rattle.nr_record.specs.Pen.{AreAllPens, ClockId, PenState}
 use Rattle.nr_replicas.specs.Replicas.{OpenState}
 use Rattle.nr_serve.specs.ChainOfRun.{IsOutcomeOf}
-use Rattle.nr_serve.specs.declared.said.Said.{Said}
-use Rattle.nr_serve.specs.declared.segment_outcome.SegmentOutcome.{SegmentOutcome}
+use Rattle.nr_serve.specs.declared.endings.said.Said.{Said}
+use Rattle.nr_serve.specs.declared.endings.segment_outcome.SegmentOutcome.{SegmentOutcome}
 use Rattle.nr_serve.specs.inside.Calls.{Since}
 use Rattle.nr_serve.specs.inside.Segment.{HaveServed, IsRunOf, state_with}
 

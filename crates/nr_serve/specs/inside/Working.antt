@@ -2,14 +2,14 @@
 use Rattle.std.specs.Prelude.{◌≡◌, ℕ, ◌+◌, ◌<◌, List, [], ◌∷◌, ◌++◌, All, None, flat_map, length, map, take}
 use Rattle.vs_types.specs.Config.{Layout}
 use Rattle.vs_types.specs.Query.{IsQuery}
-use Rattle.vs_types.specs.declared.depth.Depth.{Depth}
-use Rattle.vs_types.specs.declared.request.Query.{Query}
+use Rattle.vs_types.specs.declared.addresses.depth.Depth.{Depth}
+use Rattle.vs_types.specs.declared.requests.request.Query.{Query}
 use Rattle.nr_ring.specs.LogHistory.{IsLogHistory, log_after}
 use Rattle.nr_ring.specs.Pass.{Known, TableId}
 use Rattle.nr_record.specs.Pen.{ClockId, PenState, calls_in, new_pen}
 use Rattle.nr_serve.specs.SegmentRun.{HasSeenMore, IsAnswer}
 use Rattle.nr_serve.specs.inside.Calls.{IsServed, IsTrueOf, MadeCall, Since, WorkerState, notes_of}
-use Rattle.nr_serve.specs.declared.said.Said.{Said}
+use Rattle.nr_serve.specs.declared.endings.said.Said.{Said}
 
 -- the layout, and the place from which on places are counted, are those of the names of a log and of its replicas
 pub record IsNamed (layout : Layout) (base : ℕ) (depth : Depth) (replicas tables from : ℕ) : Type 0 where

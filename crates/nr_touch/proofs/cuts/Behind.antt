@@ -6,7 +6,7 @@ use Rattle.std.proofs.lemmas.Bool.{cases_lt}
 use Rattle.std.proofs.lemmas.List.{take-map, take-append-le}
 use Rattle.vs_types.specs.Space.{Space, page_at}
 use Rattle.vs_types.specs.Step.{allow_in_page}
-use Rattle.vs_types.specs.declared.page.Page.{Page}
+use Rattle.vs_types.specs.declared.addresses.page.Page.{Page}
 use Rattle.nr_trace.specs.Recording.{Recording}
 use Rattle.nr_trace.specs.Calls.{Answers}
 use Rattle.nr_trace.specs.Orders.{space_from}

@@ -3,7 +3,7 @@ use Rattle.std.proofs.Common.{◌≡◌, ◌↔◌, ℕ, ◌⊎◌, inl, inr, tr
 use Rattle.std.proofs.lemmas.Bool.{cases_Bool, false≢true}
 use Rattle.std.proofs.lemmas.List.Elements.{Contains-append_cases, Contains-append_left, Contains-append_right}
 use Rattle.vs_types.specs.Page.{covers}
-use Rattle.vs_types.specs.declared.page.Page.{Page}
+use Rattle.vs_types.specs.declared.addresses.page.Page.{Page}
 use Rattle.vs_types.proofs.Lists.{Contains-cases, Contains-head, Contains-tail}
 use Rattle.nr_touch.specs.Tails.{ends_look, HasNoEnd, IsLeft}
 use Rattle.nr_touch.specs.inside.Changes.{page_before}

@@ -9,8 +9,8 @@ use Rattle.std.proofs.lemmas.List.{drop_all, drop_more, reverse-reverse}
 use Rattle.std.proofs.lemmas.List.Elements.{Contains-append_cases, Contains-append_left, Contains-append_right}
 use Rattle.vs_types.specs.Page.{covers}
 use Rattle.vs_types.specs.Step.{look_in_page}
-use Rattle.vs_types.specs.declared.answer.Answer.{Answer}
-use Rattle.vs_types.specs.declared.page.Page.{Page}
+use Rattle.vs_types.specs.declared.requests.answer.Answer.{Answer}
+use Rattle.vs_types.specs.declared.addresses.page.Page.{Page}
 use Rattle.vs_types.proofs.Lists.{not_in_nil, Contains-cases, Contains-head, Contains-tail}
 use Rattle.nr_touch.specs.Looks.{is_ended, looks_left, AreLooksLeft, IsLookLeft}
 use Rattle.nr_touch.specs.Tails.{ends_look, HasNoEnd, IsLeft}

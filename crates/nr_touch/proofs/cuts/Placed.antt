@@ -9,7 +9,7 @@ use Rattle.std.proofs.lemmas.List.Sorted.{IsNonDecreasingBy-drop, IsPermutation-
 use Rattle.std.proofs.lemmas.Option.{none-some, same_Some, slice_get-map, slice_get_within, slice_get-get_or, get_or_from_slice_get}
 use Rattle.vs_types.specs.Page.{covers}
 use Rattle.vs_types.specs.Space.{Space}
-use Rattle.vs_types.specs.declared.page.Page.{Page}
+use Rattle.vs_types.specs.declared.addresses.page.Page.{Page}
 use Rattle.vs_types.proofs.Lists.{get_left, get_right, not_in_nil, Contains-cases, Contains-head, Contains-tail}
 use Rattle.nr_trace.specs.Recording.{Recording}
 use Rattle.nr_trace.proofs.LawsOfCalls.{answers_within}

@@ -1,7 +1,7 @@
 -- Addresses that have the same changes. No public clause cites this file.
 use Rattle.std.specs.Prelude.{ℕ, ◌-◌, ◌%◌, ◌+◌, ◌<◌, ◌≤◌, ◌↔◌, List, Contains}
 use Rattle.vs_types.specs.Page.{bytes_of}
-use Rattle.vs_types.specs.declared.page.Size.{Size}
+use Rattle.vs_types.specs.declared.addresses.page.Size.{Size}
 use Rattle.nr_touch.specs.inside.Changes.{number_at}
 use Rattle.nr_touch.specs.inside.Columns.{Covers, IsOf}
 use Rattle.nr_touch.specs.declared.changes.change.PlacedChange.{PlacedChange}

@@ -4,9 +4,9 @@ use Rattle.std.specs.Prelude.{Some, None, Contains, IsTrue}
 use Rattle.std.specs.FinMap as finite
 use Rattle.vs_types.specs.Page.{bytes_of, covers, level_of, IsPage}
 use Rattle.vs_types.specs.Space.{Space, page_at}
-use Rattle.vs_types.specs.declared.depth.Depth.{Depth}
-use Rattle.vs_types.specs.declared.page.Page.{Page}
-use Rattle.vs_types.specs.declared.page.Size.{Size}
+use Rattle.vs_types.specs.declared.addresses.depth.Depth.{Depth}
+use Rattle.vs_types.specs.declared.addresses.page.Page.{Page}
+use Rattle.vs_types.specs.declared.addresses.page.Size.{Size}
 use Rattle.nr_trace.specs.Recording.{Recording}
 use Rattle.nr_trace.specs.Calls.{Answers}
 use Rattle.nr_touch.specs.Touches.{page_after, ChangesLook, IsTaken, TakesAway}

@@ -2,7 +2,7 @@
 use Rattle.std.specs.Prelude.{◌≡◌, ◌<◌, ◌↔◌, ℕ, List, Contains, Option, None, Some, is_some}
 use Rattle.vs_types.specs.Space.{Space}
 use Rattle.vs_types.specs.Step.{allow_in_page}
-use Rattle.vs_types.specs.declared.page.Page.{Page}
+use Rattle.vs_types.specs.declared.addresses.page.Page.{Page}
 use Rattle.nr_trace.specs.Recording.{Recording}
 use Rattle.nr_joined.specs.Run.{Run, IsOrderly}
 use Rattle.nr_touch.specs.Touches.{EndsLook, IsAnsweredBefore}

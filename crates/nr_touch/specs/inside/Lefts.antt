@@ -4,7 +4,7 @@ use Rattle.std.specs.Prelude.{IsTrue}
 use Rattle.std.specs.BTreeSet.{contains, BTreeSet}
 use Rattle.std.specs.Ordering.{nat_cmp}
 use Rattle.vs_types.specs.Page.{covers}
-use Rattle.vs_types.specs.declared.page.Page.{Page}
+use Rattle.vs_types.specs.declared.addresses.page.Page.{Page}
 use Rattle.nr_touch.specs.Looks.{is_ended}
 use Rattle.nr_touch.specs.Tails.{ends_look, HasNoEnd, IsLeft}
 use Rattle.nr_touch.specs.inside.Changes.{ended_at, number_of, page_before}

@@ -2,8 +2,8 @@
 use Rattle.std.specs.Prelude.{◌≡◌, ℕ, ◌<◌, ◌≤◌, ◌↔◌, List, [], ◌∷◌, length, map, slice_get, slice_index, Some, Contains}
 use Rattle.std.specs.Prelude.{IsTrue}
 use Rattle.vs_types.specs.Page.{covers}
-use Rattle.vs_types.specs.declared.page.Page.{Page}
-use Rattle.vs_types.specs.declared.page.Size.TheVariants.{K4, M2, G1}
+use Rattle.vs_types.specs.declared.addresses.page.Page.{Page}
+use Rattle.vs_types.specs.declared.addresses.page.Size.TheVariants.{K4, M2, G1}
 use Rattle.nr_touch.specs.inside.Blocks.{around, whole, IsBlockOf}
 use Rattle.nr_touch.specs.inside.Bounds.{IsRising}
 use Rattle.nr_touch.specs.declared.changes.change.PlacedChange.{PlacedChange}

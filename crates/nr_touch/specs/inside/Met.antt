@@ -1,7 +1,7 @@
 -- The pages that changes are of, and how a release finds them. No public clause cites this file.
 use Rattle.std.specs.Prelude.{◌≡◌, ℕ, ◌≤◌, ◌⊎◌, List, [], length, Contains}
 use Rattle.vs_types.specs.Space.{Holds}
-use Rattle.vs_types.specs.declared.page.Page.{Page}
+use Rattle.vs_types.specs.declared.addresses.page.Page.{Page}
 use Rattle.nr_touch.specs.inside.Indexed.{HavePresent, IsIndexed}
 use Rattle.nr_touch.specs.inside.Joined.{Behind}
 use Rattle.nr_touch.specs.inside.Lives.{AreLives, HaveRows}

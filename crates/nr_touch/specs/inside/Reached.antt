@@ -1,10 +1,10 @@
 -- The pages that a touch may find, and how a release is compared with them. No public clause cites this file.
 use Rattle.std.specs.Prelude.{◌≡◌, ℕ, ◌+◌, ◌*◌, ◌<◌, ◌≤◌, ◌&&◌, ◌⊎◌, min, nat_lt, not, true, List, None, Option, Some, Contains}
 use Rattle.vs_types.specs.Page.{bytes_of}
-use Rattle.vs_types.specs.declared.access.Access.TheVariants.{Read}
-use Rattle.vs_types.specs.declared.access.Mode.TheVariants.{Supervisor}
-use Rattle.vs_types.specs.declared.answer.Answer.TheVariants.{Allowed}
-use Rattle.vs_types.specs.declared.page.Page.{Page}
+use Rattle.vs_types.specs.declared.addresses.access.Access.TheVariants.{Read}
+use Rattle.vs_types.specs.declared.addresses.access.Mode.TheVariants.{Supervisor}
+use Rattle.vs_types.specs.declared.requests.answer.Answer.TheVariants.{Allowed}
+use Rattle.vs_types.specs.declared.addresses.page.Page.{Page}
 use Rattle.nr_touch.specs.Releases.{HasPhys, IsReachedFrom}
 use Rattle.nr_touch.specs.Touches.{page_after, IsAllowedPrefix, IsRightBehind}
 use Rattle.nr_touch.specs.inside.Earlier.{EndsNowhere, IsLeftAt}

@@ -1,7 +1,7 @@
 -- Changes that lead from one space to another, and so can be undone. No public clause cites this file.
 use Rattle.std.specs.Prelude.{◌≡◌, List, [], ◌∷◌}
 use Rattle.vs_types.specs.Space.{Space, IsSpace}
-use Rattle.vs_types.specs.declared.depth.Depth.{Depth}
+use Rattle.vs_types.specs.declared.addresses.depth.Depth.{Depth}
 use Rattle.nr_touch.specs.inside.Changes.{IsPageChange}
 use Rattle.nr_touch.specs.declared.changes.change.Change.{Change}
 

@@ -1,7 +1,7 @@
 -- How an address looks until its next change. No public clause cites this file.
 use Rattle.std.specs.Prelude.{ℕ, ◌≤◌, Option, Some, None}
 use Rattle.vs_types.specs.Space.{Space, page_at}
-use Rattle.vs_types.specs.declared.page.Page.{Page}
+use Rattle.vs_types.specs.declared.addresses.page.Page.{Page}
 use Rattle.nr_trace.specs.Recording.{Recording}
 use Rattle.nr_touch.specs.Touches.{IsAnsweredAt}
 use Rattle.nr_touch.specs.inside.Changes.{page_before}

@@ -4,7 +4,7 @@ ghost use Rattle.std.specs.Prelude.{◌≡◌, ◌↔◌, map, IfOk, IsTrue};
 ghost use Rattle.std.specs.List.Sorted.{IsPermutation, IsSorted};
 ghost use Rattle.vs_types.specs.Access.{allows};
 ghost use Rattle.vs_types.specs.Codes.{rights_code};
-ghost use Rattle.vs_types.specs.declared.page.Rights.{Rights};
+ghost use Rattle.vs_types.specs.declared.addresses.page.Rights.{Rights};
 ghost use Rattle.nr_touch.specs.inside.Sights.{AreSights, HasRights, HasSight, kind_of, kind_sight_of, sight_cmp, sight_of};
 
 use crate::changes::change::{Change, PlacedChange};

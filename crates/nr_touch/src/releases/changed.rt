@@ -1,7 +1,7 @@
 //! A release beside the pages that updates of its segment changed: a search finds those that may be met.
 
 ghost use Rattle.std.specs.Prelude.{◌≡◌, ◌<◌, ◌≤◌, ◌⊎◌, if◌then◌else◌, false, max, slice_get, Contains, IfOk, IsTrue, OnOk, Some};
-ghost use Rattle.vs_types.specs.declared.page.Page.{Page as PageRow};
+ghost use Rattle.vs_types.specs.declared.addresses.page.Page.{Page as PageRow};
 ghost use Rattle.nr_trace.specs.Recording.{IsMemory};
 ghost use Rattle.nr_touch.specs.declared.releases.stays.Stay.{Stay as StayRow};
 ghost use Rattle.nr_touch.specs.inside.Blocks.{IsBlockOf};

@@ -2,7 +2,7 @@
 
 ghost use Rattle.std.specs.Prelude.{◌≡◌, ℕ, ◌⊎◌, Contains, IfOk, IfSome, OnOk, Some};
 ghost use Rattle.vs_types.specs.Space.{Holds};
-ghost use Rattle.vs_types.specs.declared.page.Page.{Page as PageRow};
+ghost use Rattle.vs_types.specs.declared.addresses.page.Page.{Page as PageRow};
 ghost use Rattle.nr_touch.specs.inside.Indexed.{HasOwn, HasPages, IsIndexed, IsIndexedAs};
 ghost use Rattle.nr_touch.specs.inside.Reached.{IsRoomy};
 

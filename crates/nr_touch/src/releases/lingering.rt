@@ -3,7 +3,7 @@
 
 ghost use Rattle.std.specs.Prelude.{◌≡◌, ℕ, ◌≤◌, ◌⊎◌, ◌++◌, false, length, slice_get, Contains, IfOk, IfSome, IsTrue, List, OnOk, Option, Some};
 ghost use Rattle.vs_types.specs.Space.{Space};
-ghost use Rattle.vs_types.specs.declared.page.Page.{Page as PageRow};
+ghost use Rattle.vs_types.specs.declared.addresses.page.Page.{Page as PageRow};
 ghost use Rattle.nr_trace.specs.Recording.{IsMemory};
 ghost use Rattle.nr_touch.specs.Tails.{ends_look, HasNoEnd, IsLeft, IsSoundLeft};
 ghost use Rattle.nr_touch.specs.declared.releases.overs.Over.{Over as OverRow};

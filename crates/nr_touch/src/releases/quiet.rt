@@ -2,7 +2,7 @@
 
 ghost use Rattle.std.specs.Prelude.{IsTrue};
 ghost use Rattle.vs_types.specs.Space.{Holds};
-ghost use Rattle.vs_types.specs.declared.page.Page.{Page as PageRow};
+ghost use Rattle.vs_types.specs.declared.addresses.page.Page.{Page as PageRow};
 ghost use Rattle.nr_trace.specs.Recording.{IsMemory};
 ghost use Rattle.nr_touch.specs.inside.Indexed.{IsIndexed};
 ghost use Rattle.nr_touch.specs.inside.Joined.{Behind, IsBuilt};

@@ -1,7 +1,7 @@
 //! The pages that a touch of a segment may find: those that are there at its end, and those before its changes and the ones left before it.
 
 ghost use Rattle.std.specs.Prelude.{◌≡◌, ◌++◌, [], map, Contains, IfOk};
-ghost use Rattle.vs_types.specs.declared.page.Page.{Page as PageRow};
+ghost use Rattle.vs_types.specs.declared.addresses.page.Page.{Page as PageRow};
 ghost use Rattle.nr_touch.specs.inside.Joined.{IsBuilt};
 ghost use Rattle.nr_touch.specs.inside.Reached.{seen_before, seen_left, seen_now, AreSeen, IsRoomy};
 ghost use Rattle.nr_touch.specs.inside.Levels.{left_in};

@@ -1,7 +1,7 @@
 //! Whether a touch is answered as its address looked at a moment between two others.
 
 ghost use Rattle.std.specs.Prelude.{◌≡◌, ◌+◌, ◌↔◌, false, IsTrue};
-ghost use Rattle.vs_types.specs.declared.answer.Answer.{Answer};
+ghost use Rattle.vs_types.specs.declared.requests.answer.Answer.{Answer};
 ghost use Rattle.nr_touch.specs.inside.Changes.{number_at};
 ghost use Rattle.nr_touch.specs.inside.Columns.{AreColumns, Covers, IsOf};
 ghost use Rattle.nr_touch.specs.inside.Sights.{IsAnsweredBetween};

@@ -4,8 +4,8 @@ use Rattle.nr_trace.specs.FirstFault.{HasRefusalAs}
 use Rattle.nr_trace.specs.Feed.{Fed, fault_of}
 use Rattle.nr_trace.specs.Feed.Fed.{Taken, Stopped}
 use Rattle.nr_trace.specs.inside.Progress.{form_of, unit_bytes, said, Ahead, IsReady}
-use Rattle.nr_trace.specs.declared.refusal.Refusal.{Refusal}
-use Rattle.nr_trace.specs.declared.version.Form.{Form}
+use Rattle.nr_trace.specs.declared.refusals.refusal.Refusal.{Refusal}
+use Rattle.nr_trace.specs.declared.formats.version.Form.{Form}
 use Rattle.nr_trace.specs.declared.reading.reader.Reader.{Reader}
 use Rattle.nr_trace.specs.declared.reading.feed.State.{State}
 use Rattle.nr_trace.specs.declared.reading.feed.State.TheVariants as states

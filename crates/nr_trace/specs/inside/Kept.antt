@@ -2,15 +2,15 @@
 use Rattle.std.specs.Prelude.{◌≡◌, ⊤}
 use Rattle.std.proofs.Common.{refl, ap}
 use Rattle.vs_types.specs.Query.{IsSomeQuery}
-use Rattle.vs_types.specs.declared.op.Action.TheVariants.{Map, Unmap, Protect}
-use Rattle.vs_types.specs.declared.request.Query.TheVariants.{Update, Resolve, Access}
-use Rattle.vs_types.specs.declared.answer.Answer.TheVariants.{Done, Overlap, Full, Removed, NotMapped, Inside, Changed, Mapped, Allowed, Fault}
-use Rattle.nr_trace.specs.declared.event.Event.{Event}
-use Rattle.nr_trace.specs.declared.event.Event.TheVariants.{Call, Reply}
-use Rattle.nr_trace.specs.declared.event.Asked.TheVariants.{Request, Release, Touch}
-use Rattle.nr_trace.specs.declared.recorded.Kept.{Kept}
-use Rattle.nr_trace.specs.declared.recorded.Kept.TheVariants as kept
-use Rattle.nr_trace.specs.declared.recorded.Recorded.TheInside as of_recorded
+use Rattle.vs_types.specs.declared.requests.op.Action.TheVariants.{Map, Unmap, Protect}
+use Rattle.vs_types.specs.declared.requests.request.Query.TheVariants.{Update, Resolve, Access}
+use Rattle.vs_types.specs.declared.requests.answer.Answer.TheVariants.{Done, Overlap, Full, Removed, NotMapped, Inside, Changed, Mapped, Allowed, Fault}
+use Rattle.nr_trace.specs.declared.recordings.event.Event.{Event}
+use Rattle.nr_trace.specs.declared.recordings.event.Event.TheVariants.{Call, Reply}
+use Rattle.nr_trace.specs.declared.recordings.event.Asked.TheVariants.{Request, Release, Touch}
+use Rattle.nr_trace.specs.declared.recordings.recorded.Kept.{Kept}
+use Rattle.nr_trace.specs.declared.recordings.recorded.Kept.TheVariants as kept
+use Rattle.nr_trace.specs.declared.recordings.recorded.Recorded.TheInside as of_recorded
 
 abbrev pub event_of : Kept → Event
 event_of (kept.Map replica thread size rights base phys) =

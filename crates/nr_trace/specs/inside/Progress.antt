@@ -4,7 +4,7 @@ use Rattle.std.specs.Prelude.{MatchResult, ⊤, if◌then◌else◌}
 use Rattle.std.specs.FinMap as finite
 use Rattle.vs_types.specs.Config.{IsLayoutWithin}
 use Rattle.vs_types.specs.declared.limits.TheConstants.{LOG_PLACES, CALLS, FRAMES}
-use Rattle.vs_types.specs.declared.refusal.Fail.{Fail}
+use Rattle.vs_types.specs.declared.requests.refusal.Fail.{Fail}
 use Rattle.vs_types.specs.Refusal.{IfRefused}
 use Rattle.vs_types.specs.Frame.{IsFrame}
 use Rattle.vs_walk.specs.Dump.{Image}
@@ -13,12 +13,12 @@ use Rattle.nr_trace.specs.Recording.{IsEvent, IsImage, IsStart, start_frames}
 use Rattle.nr_trace.specs.Spelling.{magic, version_word, counts, log_word, event, dump_head, frame_number, frame_words, frames, dump, start_units}
 use Rattle.nr_trace.specs.FirstFault.{AtUnit, AtVersion, AtCounts, AtStart, AtLog, AtEvents, AtDumps, AtFrames, IsCounts, IsNext, HasRefusalAs, IsRefusedBy, OfFrames}
 use Rattle.nr_trace.specs.FirstFault.{counts_bytes, counts_unit, magic_of, of_dump, of_start, refusal_at}
-use Rattle.nr_trace.specs.declared.fault.Format.TheVariants.{Truncated}
-use Rattle.nr_trace.specs.declared.refusal.Refusal.{Refusal}
-use Rattle.nr_trace.specs.declared.refusal.TraceUnit.{TraceUnit}
-use Rattle.nr_trace.specs.declared.refusal.TraceUnit.TheVariants as units
-use Rattle.nr_trace.specs.declared.fields.Counts.{Counts}
-use Rattle.nr_trace.specs.declared.version.Form.{Form}
+use Rattle.nr_trace.specs.declared.refusals.fault.Format.TheVariants.{Truncated}
+use Rattle.nr_trace.specs.declared.refusals.refusal.Refusal.{Refusal}
+use Rattle.nr_trace.specs.declared.refusals.refusal.TraceUnit.{TraceUnit}
+use Rattle.nr_trace.specs.declared.refusals.refusal.TraceUnit.TheVariants as units
+use Rattle.nr_trace.specs.declared.formats.fields.Counts.{Counts}
+use Rattle.nr_trace.specs.declared.formats.version.Form.{Form}
 use Rattle.nr_trace.specs.declared.reading.reader.Owner.{Owner}
 use Rattle.nr_trace.specs.declared.reading.reader.Owner.TheVariants as owners
 use Rattle.nr_trace.specs.declared.reading.reader.Parts.{Parts}

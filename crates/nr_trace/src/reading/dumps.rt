@@ -12,14 +12,14 @@ ghost use Rattle.nr_trace.specs.inside.Reading.{SpellsHead};
 ghost use Rattle.vs_walk.specs.Dump.{Image};
 ghost use Rattle.std.specs.Global.{Vec};
 
-use crate::fault::Format;
-use crate::fields::DumpHead;
+use crate::formats::fields::DumpHead;
+use crate::formats::version::Version;
 use crate::reading::lists::{at_log, push_words};
 use crate::reading::numbers::{take_u32, take_u64};
 use crate::reading::reader::{OpenFrame, Opened, Owner, Parts, Reader};
 use crate::reading::room::{make_room, room_step};
-use crate::refusal::{Refusal, TraceUnit};
-use crate::version::Version;
+use crate::refusals::fault::Format;
+use crate::refusals::refusal::{Refusal, TraceUnit};
 use vs_types::{FRAME_WORDS, Fail, Memory};
 use vs_walk::Dump;
 

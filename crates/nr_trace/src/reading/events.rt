@@ -4,18 +4,18 @@ ghost use Rattle.std.specs.Prelude.{◌≡◌, ◌≢◌, ◌↔◌, ◌∷◌, 
 ghost use Rattle.vs_types.specs.Config.{Layout};
 ghost use Rattle.vs_types.specs.Codes.{size_code};
 ghost use Rattle.vs_types.specs.Finds.{Finds};
-ghost use Rattle.vs_types.specs.declared.depth.Depth.{Depth as DepthKind};
+ghost use Rattle.vs_types.specs.declared.addresses.depth.Depth.{Depth as DepthKind};
 ghost use Rattle.nr_trace.specs.Recording.{IsEvent, IsMemory};
 ghost use Rattle.nr_trace.specs.Spelling.{event, release_fields};
 ghost use Rattle.nr_trace.specs.inside.Reading.{IsAnswerIn, IsAskedIn, IsReleaseWith, IsRequestIn, IsTouchWith, SpellsEvent};
 
-use crate::event::{Asked, Event};
-use crate::fields::AnswerFields;
-use crate::layout::TraceLayout;
-use crate::ranges::is_memory;
+use crate::formats::fields::AnswerFields;
+use crate::formats::layout::TraceLayout;
+use crate::formats::ranges::is_memory;
+use crate::formats::version::Version;
 use crate::reading::numbers::{take_u8, take_u16, take_u32, take_u64};
-use crate::recorded::Recorded;
-use crate::version::Version;
+use crate::recordings::event::{Asked, Event};
+use crate::recordings::recorded::Recorded;
 use vs_types::{Answer, Depth, Query, Request, RequestFields, Size};
 
 /// The request that has the fields, if the version knows it.

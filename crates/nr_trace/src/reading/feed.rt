@@ -9,12 +9,12 @@ ghost use Rattle.nr_trace.specs.Feed.Fed.{Taken};
 ghost use Rattle.nr_trace.specs.inside.Progress.{cut_off, form_of, said, unit_bytes, Ahead, HasRead, IsReady, IsRun};
 ghost use Rattle.nr_trace.specs.inside.Feeding.{AreFewer, HasCome, HasTaken, IsCut, IsSound};
 
-use crate::fault::Format;
-use crate::layout::TraceLayout;
+use crate::formats::layout::TraceLayout;
+use crate::formats::version::Form;
 use crate::reading::reader::Reader;
-use crate::refusal::{Refusal, TraceUnit};
-use crate::trace::Trace;
-use crate::version::Form;
+use crate::recordings::trace::Trace;
+use crate::refusals::fault::Format;
+use crate::refusals::refusal::{Refusal, TraceUnit};
 use std::alloc::Global;
 use std::marker::Model;
 use std::mem::replace;
@@ -174,7 +174,7 @@ impl Model for Feed {
     ghost Value = { Fed };
 
     ghost use Rattle.nr_trace.specs.inside.Feeding.{IsFeeding, fed};
-    ghost use Rattle.nr_trace.specs.declared.version.Form.TheVariants as forms;
+    ghost use Rattle.nr_trace.specs.declared.formats.version.Form.TheVariants as forms;
 
     ghost view = { λ f. fed f.state };
 
@@ -281,7 +281,7 @@ impl Model for SegmentFeed {
     ghost Value = { FedSegment };
 
     ghost use Rattle.nr_trace.specs.inside.Feeding.{IsFeeding, fed};
-    ghost use Rattle.nr_trace.specs.declared.version.Form.TheVariants as forms;
+    ghost use Rattle.nr_trace.specs.declared.formats.version.Form.TheVariants as forms;
 
     ghost view = { λ f. record { before = f.before; pieces = fed f.state } };
 

@@ -7,15 +7,15 @@ ghost use Rattle.nr_trace.specs.FirstFault.{AtEvents, AtLog};
 ghost use Rattle.nr_trace.specs.inside.Reading.{ArePlaced, AreRecorded, HasWords, IsBadEvent};
 ghost use Rattle.nr_trace.specs.inside.Progress.{parts_spelling, AreInRange, AreUnits, HasRead, IsReady, Takes};
 
-use crate::fault::Format;
-use crate::layout::TraceLayout;
+use crate::formats::layout::TraceLayout;
+use crate::formats::version::Version;
 use crate::reading::events::event_of;
 use crate::reading::numbers::{take_u32, take_u64};
 use crate::reading::reader::{Parts, Reader};
 use crate::reading::room::make_room;
-use crate::recorded::Recorded;
-use crate::refusal::{Refusal, TraceUnit};
-use crate::version::Version;
+use crate::recordings::recorded::Recorded;
+use crate::refusals::fault::Format;
+use crate::refusals::refusal::{Refusal, TraceUnit};
 use vs_types::{Fail, Memory};
 use vs_walk::OpenDump;
 

@@ -2,18 +2,18 @@
 
 ghost use Rattle.std.specs.Prelude.{◌≡◌, ◌≤◌, ◌<◌, ◌++◌, [], length, None, Some, MatchOption};
 
-use crate::fault::Format;
-use crate::fields::Counts;
-use crate::layout::TraceLayout;
+use crate::formats::fields::Counts;
+use crate::formats::layout::TraceLayout;
+use crate::formats::version::{Form, Version};
 use crate::reading::dumps::{
     number_unit, take_dump_head, take_frame_number, take_words, words_unit,
 };
 use crate::reading::header::{counts_unit, take_header, take_magic, take_root, take_version};
 use crate::reading::lists::{take_events, take_places};
-use crate::recorded::Recorded;
-use crate::refusal::{Refusal, TraceUnit};
-use crate::trace::Trace;
-use crate::version::{Form, Version};
+use crate::recordings::recorded::Recorded;
+use crate::recordings::trace::Trace;
+use crate::refusals::fault::Format;
+use crate::refusals::refusal::{Refusal, TraceUnit};
 use std::alloc::Global;
 use std::cmp::{max, min};
 use vs_types::{FRAME_WORDS, Fail};

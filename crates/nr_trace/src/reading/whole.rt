@@ -6,9 +6,9 @@ ghost use Rattle.nr_trace.specs.Spelling.{Spells};
 ghost use Rattle.nr_trace.specs.FirstFault.{HasFormatFault};
 ghost use Rattle.vs_types.specs.Refusal.{IfRefused};
 
-use crate::fault::Format;
 use crate::reading::feed::Feed;
-use crate::trace::Trace;
+use crate::recordings::trace::Trace;
+use crate::refusals::fault::Format;
 use std::alloc::Global;
 use vs_types::Fail;
 

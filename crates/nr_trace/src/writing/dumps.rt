@@ -3,7 +3,7 @@
 ghost use Rattle.std.specs.Prelude.{◌≡◌, ◌<◌, ◌++◌, OnOk, flat_map, option_copied};
 ghost use Rattle.nr_trace.specs.Spelling.{dump, dump_head, frame_number, frame_words, frames, start_units};
 
-use crate::fields::DumpHead;
+use crate::formats::fields::DumpHead;
 use crate::writing::lists::put_words;
 use crate::writing::numbers::{put_u32, put_u64};
 use vs_types::Memory;

@@ -3,8 +3,8 @@
 ghost use Rattle.std.specs.Prelude.{◌≡◌, ◌++◌, OnOk};
 ghost use Rattle.nr_trace.specs.Spelling.{asked, asked_fields, event, release_fields, touch_fields};
 
-use crate::event::{Asked, Event};
-use crate::fields::AnswerFields;
+use crate::formats::fields::AnswerFields;
+use crate::recordings::event::{Asked, Event};
 use vs_types::{Access, Answer, Memory, Mode, RequestFields, Size};
 
 /// The fields of a touch.

@@ -3,8 +3,8 @@
 ghost use Rattle.std.specs.Prelude.{◌≡◌, ◌++◌, OnOk};
 ghost use Rattle.nr_trace.specs.Spelling.{counts, counts_front, magic, start_count, version_word};
 
-use crate::fields::Counts;
-use crate::version::Version;
+use crate::formats::fields::Counts;
+use crate::formats::version::Version;
 use crate::writing::numbers::{put_u16, put_u32};
 use vs_types::Memory;
 

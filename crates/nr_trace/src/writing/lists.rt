@@ -3,9 +3,9 @@
 ghost use Rattle.std.specs.Int.{w64, to_be_bytes};
 ghost use Rattle.std.specs.Prelude.{◌≡◌, ◌++◌, ◌+◌, ◌<◌, ◌≤◌, ℕ, IfOk, OnOk, flat_map, slice_index};
 ghost use Rattle.nr_trace.specs.Spelling.{log_word, event, frame_words};
-ghost use Rattle.vs_types.specs.declared.frame.TheConstants.{FRAME_WORDS};
+ghost use Rattle.vs_types.specs.declared.addresses.frame.TheConstants.{FRAME_WORDS};
 
-use crate::recorded::Recorded;
+use crate::recordings::recorded::Recorded;
 use crate::writing::events::put_event;
 use crate::writing::numbers::{put_u32, put_u64};
 use vs_types::{FRAME_WORDS, Memory};

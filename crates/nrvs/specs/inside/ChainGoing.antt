@@ -2,14 +2,14 @@
 use Rattle.std.specs.Prelude.{◌≡◌, ◌≤◌, ◌⊎◌, ℕ, ◌++◌, Bool, List, [], Option, Some, None, length, slice_index_or}
 use Rattle.std.specs.List.{AllZip}
 use Rattle.std.specs.Io.KnownBytes.{Appends}
-use Rattle.vs_types.specs.declared.depth.Depth.{Depth}
-use Rattle.vs_types.specs.declared.request.Query.{Query}
+use Rattle.vs_types.specs.declared.addresses.depth.Depth.{Depth}
+use Rattle.vs_types.specs.declared.requests.request.Query.{Query}
 use Rattle.nr_ring.specs.Pass.{TableId}
 use Rattle.nr_serve.specs.ChainOfRun.{IsOutcomeOf, RunsOn}
 use Rattle.nr_serve.specs.RunState.{RunState, new_run}
 use Rattle.nr_serve.specs.SegmentRun.{Ran}
-use Rattle.nr_serve.specs.declared.segment_outcome.SegmentOutcome.{SegmentOutcome}
-use Rattle.nr_serve.specs.declared.segment_outcome.SegmentOutcome.TheVariants.{Right, Last, Wrong}
+use Rattle.nr_serve.specs.declared.endings.segment_outcome.SegmentOutcome.{SegmentOutcome}
+use Rattle.nr_serve.specs.declared.endings.segment_outcome.SegmentOutcome.TheVariants.{Right, Last, Wrong}
 use Rattle.nr_script.specs.Fed.{EndsIn}
 use Rattle.nr_script.specs.Lines.{Says}
 use Rattle.nr_script.specs.Portion.{PortionState, number_behind, request_count}

@@ -2,7 +2,7 @@
 ghost use Rattle.std.specs.Prelude.{◌≡◌, ◌≢◌, ◌+◌, ◌++◌, ◌<◌, ◌^◌, ◌-◌, ℕ, IfErr, IfOk, List, Option, OnOk, false, length, map, string_bytes, true};
 ghost use Rattle.std.specs.Io.KnownBytes.{Appends};
 ghost use Rattle.vs_types.specs.Query.{AreScripts};
-ghost use Rattle.nr_ring.specs.declared.words.TheConstants.{MOST_PLACES};
+ghost use Rattle.nr_ring.specs.declared.cells.words.TheConstants.{MOST_PLACES};
 ghost use Rattle.nr_script.specs.Portion.{request_count};
 ghost use Rattle.audit_readers.specs.Ends.{RefusesUnreadable};
 ghost use Rattle.nrvs.specs.ServedChain.{HasServed, HasWrittenSegments, IsChainFault, IsServedChain, chain_layout, end_line};

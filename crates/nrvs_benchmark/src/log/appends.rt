@@ -1,7 +1,7 @@
 //! Appends: each thread owns a replica, appends entries, and takes all that there are.
 ghost use Rattle.std.specs.Prelude.{◌≡◌, ◌+◌, ◌≤◌, ◌∷◌, ℕ, [], All, length};
 ghost use Rattle.vs_types.specs.LogEntry.{IsLogEntry};
-ghost use Rattle.vs_types.specs.declared.depth.Depth.TheVariants.{Four};
+ghost use Rattle.vs_types.specs.declared.addresses.depth.Depth.TheVariants.{Four};
 ghost use Rattle.vs_types.specs.declared.limits.TheConstants.{LOG_PLACES};
 
 use crate::clock::now;

@@ -1,6 +1,6 @@
 //! Looks: each thread looks at a log to which nothing is appended meanwhile.
 ghost use Rattle.std.specs.Prelude.{◌≡◌, ◌+◌, ◌≤◌, All};
-ghost use Rattle.vs_types.specs.declared.depth.Depth.TheVariants.{Four};
+ghost use Rattle.vs_types.specs.declared.addresses.depth.Depth.TheVariants.{Four};
 ghost use Rattle.vs_types.specs.declared.limits.TheConstants.{LOG_PLACES};
 
 use crate::clock::now;

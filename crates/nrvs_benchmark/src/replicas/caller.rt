@@ -2,7 +2,7 @@
 ghost use Rattle.std.specs.Prelude.{◌≡◌, ◌<◌};
 ghost use Rattle.vs_types.specs.Depth.{IsCanonical};
 ghost use Rattle.vs_types.specs.Operation.{IsAction};
-ghost use Rattle.vs_types.specs.declared.depth.Depth.TheVariants.{Four};
+ghost use Rattle.vs_types.specs.declared.addresses.depth.Depth.TheVariants.{Four};
 
 use crate::fault::ProgFault;
 use nr_replicas::{Gate, Point, Replicas, ReplicasName, Signal};
@@ -43,7 +43,7 @@ pub struct Caller<'a, J: LogName, K: ReplicasName> {
 impl<'a, J: LogName, K: ReplicasName> Model for Caller<'a, J, K> {
     ghost use Rattle.std.specs.Prelude.{◌≡◌, ◌<◌};
     ghost use Rattle.nr_ring.specs.Pass.{Known};
-    ghost use Rattle.vs_types.specs.declared.depth.Depth.TheVariants.{Four};
+    ghost use Rattle.vs_types.specs.declared.addresses.depth.Depth.TheVariants.{Four};
 
     ghost Value = { Known };
 

@@ -3,20 +3,20 @@ use Rattle.std.specs.Prelude.{◌≡◌, ◌⊎◌, ℕ, ◌<◌, ◌≤◌, Som
 use Rattle.vs_types.specs.Codes.{rights_code}
 use Rattle.vs_types.specs.Entry.{rights_of}
 use Rattle.vs_types.specs.Page.{intersection}
-use Rattle.nrvs_plan_c.specs.declared.told.Reply.{Reply}
+use Rattle.nrvs_plan_c.specs.declared.records.told.Reply.{Reply}
 use Rattle.vs_types.specs.Depth.{IsCanonical, index_at}
 use Rattle.vs_walk.specs.Memory.{Memory}
 use Rattle.vs_space.specs.Held.{word_at}
-use Rattle.vs_plan.specs.declared.target.Target.{Target}
-use Rattle.vs_plan.specs.declared.request.Request.{Request}
+use Rattle.vs_plan.specs.declared.plans.target.Target.{Target}
+use Rattle.vs_plan.specs.declared.plans.request.Request.{Request}
 use Rattle.vs_plan.specs.Request.{IsRequest}
 use Rattle.vs_plan.specs.Shown.{HasOtherWord}
 use Rattle.vs_plan.specs.Target.{HasPhysBits, frames_end, highest_link}
 use Rattle.vs_plan.specs.Way.{IsWay}
-use Rattle.nrvs_plan_c.specs.declared.codes.TheConstants.{ENDED}
+use Rattle.nrvs_plan_c.specs.declared.records.codes.TheConstants.{ENDED}
 use Rattle.nrvs_plan_c.specs.declared.end.End.{End}
-use Rattle.nrvs_plan_c.specs.declared.kept.Plan.{Plan}
-use Rattle.nrvs_plan_c.specs.declared.kept.Target as numbers
+use Rattle.nrvs_plan_c.specs.declared.records.kept.Plan.{Plan}
+use Rattle.nrvs_plan_c.specs.declared.records.kept.Target as numbers
 use Rattle.nrvs_plan_c.specs.Kept.{target_of}
 use Rattle.vs_types.specs.Bits.{rights_at}
 use Rattle.nrvs_plan_c.specs.Next.{IsPlanned}

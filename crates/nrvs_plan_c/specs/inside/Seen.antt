@@ -2,11 +2,11 @@
 use Rattle.std.specs.Prelude.{◌≡◌, ◌<◌, ◌≤◌, ℕ, List, [], Some}
 use Rattle.std.specs.FinMap as finite
 use Rattle.vs_walk.specs.Memory.{Memory}
-use Rattle.vs_plan.specs.declared.plan.TheConstants.{MOST_UNLINKED}
+use Rattle.vs_plan.specs.declared.plans.plan.TheConstants.{MOST_UNLINKED}
 use Rattle.vs_plan.specs.Planner.{frames_given}
 use Rattle.vs_plan.specs.Shown.{IsShown}
-use Rattle.nrvs_plan_c.specs.declared.codes.TheConstants.{ENDED}
-use Rattle.nrvs_plan_c.specs.declared.kept.Plan.{Plan}
+use Rattle.nrvs_plan_c.specs.declared.records.codes.TheConstants.{ENDED}
+use Rattle.nrvs_plan_c.specs.declared.records.kept.Plan.{Plan}
 use Rattle.nrvs_plan_c.specs.Kept.{IsSound, phase_in, planner_in, shows_left}
 use Rattle.nrvs_plan_c.specs.Next.{IsNextOf, status_in}
 

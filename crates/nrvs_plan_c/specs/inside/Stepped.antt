@@ -3,14 +3,14 @@ use Rattle.std.specs.Prelude.{◌≡◌, ℕ, ◌-◌, ◌<◌, List, nat_eq, sl
 use Rattle.vs_types.specs.Codes.{size_code}
 use Rattle.vs_types.specs.Depth.{index_at}
 use Rattle.vs_types.specs.Entry.{meaning}
-use Rattle.vs_types.specs.declared.page.Rights.{Rights}
-use Rattle.vs_types.specs.declared.entry.Meaning.TheVariants as entry
-use Rattle.vs_plan.specs.declared.planner.Phase.TheVariants.{Descent}
+use Rattle.vs_types.specs.declared.addresses.page.Rights.{Rights}
+use Rattle.vs_types.specs.declared.entries.entry.Meaning.TheVariants as entry
+use Rattle.vs_plan.specs.declared.plans.planner.Phase.TheVariants.{Descent}
 use Rattle.vs_plan.specs.Request.{lowest_of}
 use Rattle.vs_plan.specs.Target.{frames_end}
 use Rattle.vs_range.specs.declared.planner.RangeStep.{RangeStep}
 use Rattle.vs_range.specs.declared.planner.RangeStep.TheVariants.{See, Give, Runs, Harvests, Planned, Absent, Beyond}
-use Rattle.nrvs_plan_c.specs.declared.range.Run.{Run}
+use Rattle.nrvs_plan_c.specs.declared.records.range.Run.{Run}
 use Rattle.nrvs_plan_c.specs.Kept.{phase_in, request_in, target_in}
 
 -- the status of a step, with the size of a page that ends beyond the range

@@ -1,9 +1,9 @@
 -- Plans of at most one store, in numbers.
 use Rattle.std.specs.Prelude.{◌≡◌, ◌∷◌, ℕ, [], take}
-use Rattle.vs_plan.specs.declared.plan.Store.{Store}
+use Rattle.vs_plan.specs.declared.plans.plan.Store.{Store}
 use Rattle.nrvs_plan_c.specs.declared.end.End.{End}
-use Rattle.nrvs_plan_c.specs.declared.kept.Plan.{Plan}
-use Rattle.nrvs_plan_c.specs.declared.told.Reply.{Reply}
+use Rattle.nrvs_plan_c.specs.declared.records.kept.Plan.{Plan}
+use Rattle.nrvs_plan_c.specs.declared.records.told.Reply.{Reply}
 
 -- what is answered, and that nothing is to be done
 pub record HasNone (answer : Reply) (attributes : ℕ) (plan : Plan) : Type 0 where

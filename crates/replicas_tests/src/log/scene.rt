@@ -1,7 +1,7 @@
 //! New logs, of which tests have the parties make calls.
 ghost use Rattle.std.specs.Prelude.{◌≡◌, ◌+◌, ◌≤◌, IfOk};
 ghost use Rattle.vs_types.specs.declared.limits.TheConstants.{REPLICAS};
-ghost use Rattle.nr_ring.specs.declared.words.TheConstants.{MOST_PLACES, OTHERS};
+ghost use Rattle.nr_ring.specs.declared.cells.words.TheConstants.{MOST_PLACES, OTHERS};
 ghost use Rattle.nr_ring.specs.Pass.{new_passes};
 
 use crate::log::party::{OfLog, Party};

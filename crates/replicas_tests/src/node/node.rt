@@ -194,7 +194,7 @@ fn no_frame_for_the_root(rt: HostRuntime) {
 struct Two;
 
 impl LogName for Two {
-    ghost use Rattle.vs_types.specs.declared.depth.Depth.TheVariants.{Four};
+    ghost use Rattle.vs_types.specs.declared.addresses.depth.Depth.TheVariants.{Four};
 
     ghost depth = { Four };
 

@@ -2,7 +2,7 @@
 use Rattle.std.specs.Prelude.{ℕ, List, map}
 use Rattle.std.specs.FinMap as finite
 use Rattle.vs_types.specs.Space.{Space}
-use Rattle.vs_types.specs.declared.page.Page.{Page}
+use Rattle.vs_types.specs.declared.addresses.page.Page.{Page}
 use Rattle.vs_plain.specs.declared.mapping.Mapping.{Mapping}
 
 -- the page that is so mapped from a base on

@@ -1,7 +1,7 @@
 -- The pages that begin next to an address.
 use Rattle.std.specs.Prelude.{ℕ, ◌<◌, ◌≤◌, Option, Some, None}
 use Rattle.vs_types.specs.Space.{Space, Holds}
-use Rattle.vs_types.specs.declared.page.Page.{Page}
+use Rattle.vs_types.specs.declared.addresses.page.Page.{Page}
 
 -- of the pages that begin up to the address, the last one
 abbrev pub IsLastUpTo : Space → ℕ → Option Page → Type 0

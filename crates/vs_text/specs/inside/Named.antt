@@ -1,8 +1,8 @@
 -- What the arguments of a request say, by its name.
 use Rattle.std.specs.Prelude.{◌≡◌, ℕ, List}
 use Rattle.vs_types.specs.Query.{IsQuery}
-use Rattle.vs_types.specs.declared.depth.Depth.{Depth}
-use Rattle.vs_types.specs.declared.request.Query.{Query}
+use Rattle.vs_types.specs.declared.addresses.depth.Depth.{Depth}
+use Rattle.vs_types.specs.declared.requests.request.Query.{Query}
 use Rattle.vs_text.specs.Requests.{name_of, AreArguments}
 use Rattle.vs_text.specs.declared.name.Name.{Name}
 

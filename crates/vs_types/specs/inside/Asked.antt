@@ -1,12 +1,12 @@
 -- A query as one case each of operations and reads. No public clause cites this file.
 use Rattle.std.specs.Prelude.{◌≡◌}
 use Rattle.std.proofs.Common.{refl, ap}
-use Rattle.vs_types.specs.declared.op.Action.TheVariants.{Map, Unmap, Protect}
-use Rattle.vs_types.specs.declared.request.Query.{Query}
-use Rattle.vs_types.specs.declared.request.Query.TheVariants.{Update, Resolve, Access}
-use Rattle.vs_types.specs.declared.request.Asked.{Asked}
-use Rattle.vs_types.specs.declared.request.Asked.TheVariants as asked
-use Rattle.vs_types.specs.declared.request.Request.TheInside.{Inside}
+use Rattle.vs_types.specs.declared.requests.op.Action.TheVariants.{Map, Unmap, Protect}
+use Rattle.vs_types.specs.declared.requests.request.Query.{Query}
+use Rattle.vs_types.specs.declared.requests.request.Query.TheVariants.{Update, Resolve, Access}
+use Rattle.vs_types.specs.declared.requests.request.Asked.{Asked}
+use Rattle.vs_types.specs.declared.requests.request.Asked.TheVariants as asked
+use Rattle.vs_types.specs.declared.requests.request.Request.TheInside.{Inside}
 
 abbrev pub query_of : Asked → Query
 query_of (asked.Map page) = Update (Map page)

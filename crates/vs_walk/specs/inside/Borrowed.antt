@@ -1,6 +1,6 @@
 -- The words of a frame of which all are borrowed, or those that are not 0. No public clause cites this file.
 use Rattle.std.specs.Prelude.{◌≡◌, ◌≢◌, ℕ, ◌<◌, ◌≤◌, List, length, slice_index}
-use Rattle.vs_types.specs.declared.frame.TheConstants.{FRAME_WORDS}
+use Rattle.vs_types.specs.declared.addresses.frame.TheConstants.{FRAME_WORDS}
 use Rattle.vs_walk.specs.declared.frame_words.Borrowed.{Borrowed}
 use Rattle.vs_walk.specs.declared.frame_words.Borrowed.TheVariants.{Whole, Nonzero}
 use Rattle.vs_walk.specs.declared.frame_words.NextWord.{NextWord}

@@ -4,7 +4,7 @@ use Rattle.std.specs.Prelude.{◌≡◌, ℕ, zero, suc, ◌+◌, ◌-◌, ◌<�
 use Rattle.std.specs.Global.{Vec}
 use Rattle.std.specs.Vec.{vec_len, vec_capacity}
 use Rattle.std.specs.FinMap as finite
-use Rattle.vs_types.specs.declared.frame.TheConstants.{FRAME_WORDS}
+use Rattle.vs_types.specs.declared.addresses.frame.TheConstants.{FRAME_WORDS}
 use Rattle.vs_types.specs.declared.limits.TheConstants.{FRAMES}
 use Rattle.vs_walk.specs.Dump.{Image, AreParts}
 use Rattle.vs_walk.specs.declared.dump.Span.{Span}

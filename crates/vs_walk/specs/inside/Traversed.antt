@@ -2,8 +2,8 @@
 -- cites this file.
 use Rattle.std.specs.Prelude.{◌≡◌, ℕ, ◌+◌, ◌*◌, ◌<◌, ◌≤◌, List, ◌++◌, Some, None, slice_index}
 use Rattle.vs_types.specs.Depth.{levels, half_bytes, table_bytes}
-use Rattle.vs_types.specs.declared.depth.Depth.{Depth}
-use Rattle.vs_types.specs.declared.page.Page.{Page}
+use Rattle.vs_types.specs.declared.addresses.depth.Depth.{Depth}
+use Rattle.vs_types.specs.declared.addresses.page.Page.{Page}
 use Rattle.vs_walk.specs.Memory.{Memory}
 use Rattle.vs_walk.specs.Reached.{AreJust}
 use Rattle.vs_walk.specs.Traversal.{Visit, ReachedTable, reached, found, first_fault_after}

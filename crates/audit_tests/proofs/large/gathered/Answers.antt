@@ -1,4 +1,4 @@
-use Rattle.vs_types.specs.declared.depth.Depth.TheVariants.{Five}
+use Rattle.vs_types.specs.declared.addresses.depth.Depth.TheVariants.{Five}
 use Rattle.vs_walk.proofs.Gathered.{dump_few, dump_in_range}
 use Rattle.audit_tests.proofs.large.gathered.Goals as goal
 

@@ -1,7 +1,7 @@
 use Rattle.std.proofs.Common.{ℕ, [], ◌∷◌, ◌++◌, ap, arith, cond, ◌∙◌}
 use Rattle.std.proofs.lemmas.List.Sums.{sum_by-append}
-use Rattle.vs_types.specs.declared.answer.Answer.TheVariants.{NotMapped}
-use Rattle.nr_trace.specs.declared.event.Event.TheVariants.{Reply}
+use Rattle.vs_types.specs.declared.requests.answer.Answer.TheVariants.{NotMapped}
+use Rattle.nr_trace.specs.declared.recordings.event.Event.TheVariants.{Reply}
 use Rattle.nr_record.specs.Pen.{calls_in, call_by, is_call, stamped}
 use Rattle.nr_record.specs.declared.stamped.Stamped.{Stamped}
 use Rattle.core_tests.proofs.recorder_growths.call_once.Goals as goal

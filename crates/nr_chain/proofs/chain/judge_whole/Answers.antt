@@ -1,6 +1,6 @@
 use Rattle.std.proofs.Common.{sym, subst}
 use Rattle.vs_types.specs.Config.{Layout}
-use Rattle.nr_trace.specs.declared.fault.Fault.{Fault}
+use Rattle.nr_trace.specs.declared.refusals.fault.Fault.{Fault}
 use Rattle.nr_audit.specs.Faults.{IsFirstAfter}
 use Rattle.nr_audit.specs.Segments.{FitsPast}
 use Rattle.nr_chain.proofs.Betweens.{fresh_between}

@@ -1,4 +1,4 @@
-use Rattle.nr_trace.specs.declared.fault.Fault.TheVariants.{PrefixPastLog, PrefixShort, MissingFrame, SharedFrame, ReservedBit, StrayFrame, Differs}
+use Rattle.nr_trace.specs.declared.refusals.fault.Fault.TheVariants.{PrefixPastLog, PrefixShort, MissingFrame, SharedFrame, ReservedBit, StrayFrame, Differs}
 use Rattle.nr_core.proofs.reached.NoFault.{none_of_steps}
 use Rattle.nr_core.proofs.faultless.dumps_are_of_the_log.Goals as goal
 

@@ -1,4 +1,4 @@
-use Rattle.nr_trace.specs.declared.fault.Fault.TheVariants.{Early}
+use Rattle.nr_trace.specs.declared.refusals.fault.Fault.TheVariants.{Early}
 use Rattle.nr_core.proofs.reached.NoFault.{none_of_steps}
 use Rattle.nr_core.proofs.faultless.no_call_is_early.Goals as goal
 

@@ -1,6 +1,6 @@
 use Rattle.std.proofs.Common.{ℕ, ◌/◌, ◌%◌, ap, sym, ◌∙◌, arith}
 use Rattle.vs_types.specs.inside.Telling.{rights_in, size_in}
-use Rattle.vs_types.specs.declared.answer.Answer.TheVariants.{Changed, Mapped, Removed}
+use Rattle.vs_types.specs.declared.requests.answer.Answer.TheVariants.{Changed, Mapped, Removed}
 use Rattle.nr_node.specs.inside.Told.{answer_of}
 use Rattle.nr_node.proofs.Tellings.{fault_above}
 use Rattle.nr_node.proofs.told.answer_in.Goals as goal

@@ -3,8 +3,8 @@ use Rattle.std.specs.Prelude.{◌↔◌}
 use Rattle.vs_types.specs.Config.{Layout}
 use Rattle.nr_trace.specs.Recording.{Recording, IsEvent}
 use Rattle.nr_trace.specs.Versions.{FitsFirst}
-use Rattle.nr_trace.specs.declared.event.Event.{Event}
-use Rattle.nr_trace.specs.declared.version.Version.TheVariants.{V1, V2}
+use Rattle.nr_trace.specs.declared.recordings.event.Event.{Event}
+use Rattle.nr_trace.specs.declared.formats.version.Version.TheVariants.{V1, V2}
 use Rattle.nr_record.specs.Events.{AreEventsOf}
 use Rattle.nr_record.proofs.ending.finish.Goals as goal
 

@@ -1,8 +1,8 @@
 use Rattle.std.proofs.Common.{List, All, ap, sym, subst}
 use Rattle.vs_types.specs.Config.{Layout}
 use Rattle.nr_trace.specs.Recording.{Recording, IsEvent}
-use Rattle.nr_trace.specs.declared.event.Event.{Event}
-use Rattle.nr_trace.specs.declared.version.Version.TheVariants.{V2}
+use Rattle.nr_trace.specs.declared.recordings.event.Event.{Event}
+use Rattle.nr_trace.specs.declared.formats.version.Version.TheVariants.{V2}
 use Rattle.nr_record.specs.Events.{AreEventsOf}
 use Rattle.nr_record.proofs.ending.finish_segment.Goals as goal
 

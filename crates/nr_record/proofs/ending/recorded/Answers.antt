@@ -1,11 +1,11 @@
 use Rattle.std.proofs.Common.{◌≡◌, ℕ, List, All, length, map, ap, sym, subst, ◌∙◌, arith}
 use Rattle.std.specs.List.{flat_map}
 use Rattle.std.proofs.lemmas.Result.{IfOk-weaker}
-use Rattle.vs_types.specs.declared.answer.Answer.TheVariants.{Done}
+use Rattle.vs_types.specs.declared.requests.answer.Answer.TheVariants.{Done}
 use Rattle.nr_trace.specs.Recording.{IsEvent}
-use Rattle.nr_trace.specs.declared.event.Event.{Event}
-use Rattle.nr_trace.specs.declared.event.Event.TheVariants.{Reply}
-use Rattle.nr_trace.specs.declared.version.Version.TheVariants.{V2}
+use Rattle.nr_trace.specs.declared.recordings.event.Event.{Event}
+use Rattle.nr_trace.specs.declared.recordings.event.Event.TheVariants.{Reply}
+use Rattle.nr_trace.specs.declared.formats.version.Version.TheVariants.{V2}
 use Rattle.nr_record.proofs.Finished.{length_run, notes_below, run_fits, run_is, run_is_theirs}
 use Rattle.nr_record.proofs.ending.recorded.Goals as goal
 

@@ -4,7 +4,7 @@ use Rattle.std.proofs.lemmas.List.{append-nil}
 use Rattle.std.proofs.lemmas.List.Elements.{All-cons}
 use Rattle.nr_ring.specs.Pass.{Known}
 use Rattle.nr_ring.specs.View.{StartsWith}
-use Rattle.nr_ring.specs.declared.tails.Tails.{Tails}
+use Rattle.nr_ring.specs.declared.ring.tails.Tails.{Tails}
 use Rattle.nr_ring.proofs.Appends.{begins}
 use Rattle.nr_replicas.specs.Replicas.{HasHeard}
 use Rattle.nr_replicas.specs.inside.Settling.{WasTold}

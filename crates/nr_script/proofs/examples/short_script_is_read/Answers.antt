@@ -1,8 +1,8 @@
 use Rattle.std.proofs.Common.{[], ◌∷◌, codes, refl, inl, inr, lit<, lit≤}
 use Rattle.std.specs.List.{AllZip}
 use Rattle.std.proofs.lemmas.Fmt.{decimal_digit}
-use Rattle.vs_types.specs.declared.depth.Depth.TheVariants.{Four}
-use Rattle.nr_core.specs.declared.step.Act.TheVariants.{Call, Take}
+use Rattle.vs_types.specs.declared.addresses.depth.Depth.TheVariants.{Four}
+use Rattle.nr_core.specs.declared.runs.step.Act.TheVariants.{Call, Take}
 use Rattle.nr_script.specs.Examples.{map_it, resolve_it, short_lines, short_script}
 use Rattle.nr_script.specs.Lines.{Says}
 use Rattle.nr_script.specs.Lines.{lines}

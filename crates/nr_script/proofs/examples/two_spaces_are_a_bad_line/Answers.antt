@@ -1,7 +1,7 @@
 use Rattle.std.proofs.Common.{◌<◌, ℕ, List, [], ◌∷◌, codes, ◌≡◌, length, get_or, ap, ◌∙◌, refl, inl, inr, lit<, lit≤, arith}
 use Rattle.std.proofs.lemmas.Fmt.{decimal_digit}
-use Rattle.vs_types.specs.declared.depth.Depth.TheVariants.{Four}
-use Rattle.vs_types.specs.declared.request.Query.TheVariants.{Resolve}
+use Rattle.vs_types.specs.declared.addresses.depth.Depth.TheVariants.{Four}
+use Rattle.vs_types.specs.declared.requests.request.Query.TheVariants.{Resolve}
 use Rattle.nr_script.specs.Lines.{Says}
 use Rattle.vs_text.specs.Requests.{name_of, name_text}
 use Rattle.nr_script.specs.declared.line.Line.{Line}

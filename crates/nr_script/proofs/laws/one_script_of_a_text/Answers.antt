@@ -1,6 +1,6 @@
 use Rattle.std.proofs.Common.{◌≡◌, ℕ, List, sym, ap, map, ◌∙◌}
 use Rattle.std.specs.List.{range_with_len}
-use Rattle.vs_types.specs.declared.depth.Depth.{Depth}
+use Rattle.vs_types.specs.declared.addresses.depth.Depth.{Depth}
 use Rattle.nr_script.specs.Script.{first_step_in, requests_by, steps_of, thread_count, IsScript}
 use Rattle.nr_script.specs.Lines.{lines}
 use Rattle.nr_script.specs.declared.line.Line.{Line}

@@ -1,6 +1,6 @@
 use Rattle.nr_trace.proofs.LawsOfSpelling.{one_recording}
 use Rattle.nr_trace.proofs.LawsOfFronts.{one_segment}
-use Rattle.nr_trace.specs.declared.version.Form.TheVariants as forms
+use Rattle.nr_trace.specs.declared.formats.version.Form.TheVariants as forms
 use Rattle.nr_trace.proofs.laws.bytes_begin_with_one_segment.Goals as goal
 
 pub returns-clause-spell : goal.returns-clause-spell

@@ -1,7 +1,7 @@
 use Rattle.std.proofs.Common.{sym, ap, ◌∙◌}
 use Rattle.vs_types.specs.Operation.{page_fault}
-use Rattle.vs_types.specs.declared.depth.Depth.{Depth}
-use Rattle.vs_types.specs.declared.page.Page.{Page}
+use Rattle.vs_types.specs.declared.addresses.depth.Depth.{Depth}
+use Rattle.vs_types.specs.declared.addresses.page.Page.{Page}
 use Rattle.nrvs_c.specs.Status.{status_if}
 use Rattle.nrvs_c.proofs.Pages.{page_is}
 use Rattle.nrvs_c.proofs.exports.nrvs_table_map.Goals as goal

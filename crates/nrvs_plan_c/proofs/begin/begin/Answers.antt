@@ -1,11 +1,11 @@
 use Rattle.std.proofs.Common.{◌≡◌, ◌<◌, ◌≤◌, None, sym, ap, subst, ◌∙◌}
 use Rattle.vs_types.specs.Depth.{levels}
-use Rattle.vs_plan.specs.declared.request.Request.{Request}
-use Rattle.vs_plan.specs.declared.target.Target.{Target}
+use Rattle.vs_plan.specs.declared.plans.request.Request.{Request}
+use Rattle.vs_plan.specs.declared.plans.target.Target.{Target}
 use Rattle.vs_plan.specs.Request.{request_fault}
 use Rattle.vs_plan.specs.Target.{highest_link}
 use Rattle.vs_plan.proofs.Requests.{request_good}
-use Rattle.nrvs_plan_c.specs.declared.kept.Call.{Call}
+use Rattle.nrvs_plan_c.specs.declared.records.kept.Call.{Call}
 use Rattle.nrvs_plan_c.specs.Kept.{depth_in, request_in, target_in}
 use Rattle.nrvs_plan_c.proofs.CallKinds.{most_shown}
 use Rattle.nrvs_plan_c.proofs.begin.begin.Goals as goal

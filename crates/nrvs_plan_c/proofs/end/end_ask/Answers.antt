@@ -1,5 +1,5 @@
 use Rattle.std.proofs.Common.{refl, ◌+◌, ◌%◌}
-use Rattle.nrvs_plan_c.specs.declared.told.Reply.{Reply}
+use Rattle.nrvs_plan_c.specs.declared.records.told.Reply.{Reply}
 use Rattle.nrvs_plan_c.proofs.EndsRight.{ask_absent, ask_page}
 use Rattle.nrvs_plan_c.proofs.EndsTold.{planned_none}
 use Rattle.nrvs_plan_c.proofs.end.end_ask.Goals as goal

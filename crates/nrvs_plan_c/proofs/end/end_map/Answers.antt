@@ -1,6 +1,6 @@
 use Rattle.std.proofs.Common.{refl, ap, ◌∙◌}
-use Rattle.vs_types.specs.declared.page.Size.TheVariants.{K4}
-use Rattle.vs_types.specs.declared.page.Rights.{Rights}
+use Rattle.vs_types.specs.declared.addresses.page.Size.TheVariants.{K4}
+use Rattle.vs_types.specs.declared.addresses.page.Rights.{Rights}
 use Rattle.vs_types.specs.Bits.{page_word}
 use Rattle.nrvs_plan_c.proofs.EndsRight.{grants, lacks, map_less, map_overlaps, map_written}
 use Rattle.nrvs_plan_c.proofs.EndsTold.{planned_none, planned_store}

@@ -1,6 +1,6 @@
 use Rattle.std.proofs.Common.{refl, sym, ap, ◌∙◌, ⊎_elim}
 use Rattle.std.proofs.lemmas.Bool.{cases_eq}
-use Rattle.vs_types.specs.declared.page.Rights.{Rights}
+use Rattle.vs_types.specs.declared.addresses.page.Rights.{Rights}
 use Rattle.vs_types.specs.Bits.{with_rights}
 use Rattle.nrvs_plan_c.proofs.EndsRight.{grants, lacks, protect_absent, protect_less, protect_same, protect_written}
 use Rattle.nrvs_plan_c.proofs.EndsTold.{planned_none, planned_store}

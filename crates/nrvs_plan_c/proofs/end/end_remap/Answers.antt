@@ -1,11 +1,11 @@
 use Rattle.std.proofs.Common.{◌≡◌, Some, None, ⊎_elim, refl, sym, ap, ◌∙◌, ◌+◌, ◌^◌, min, arith}
 use Rattle.std.specs.Prelude.{nat_lt, if◌then◌else◌}
 use Rattle.std.proofs.lemmas.Bool.{cases_eq}
-use Rattle.vs_types.specs.declared.page.Rights.{Rights}
-use Rattle.vs_types.specs.declared.page.Size.TheVariants.{K4}
+use Rattle.vs_types.specs.declared.addresses.page.Rights.{Rights}
+use Rattle.vs_types.specs.declared.addresses.page.Size.TheVariants.{K4}
 use Rattle.vs_types.specs.Bits.{with_address, with_rights}
 use Rattle.vs_plan.specs.Changes.{phys_refusal}
-use Rattle.vs_plan.specs.declared.plan.Reply.TheVariants as replies
+use Rattle.vs_plan.specs.declared.plans.plan.Reply.TheVariants as replies
 use Rattle.nrvs_plan_c.proofs.EndsRight.{grants, in_order, lacks, remap_absent, remap_less, remap_refused, remap_same, remap_written, unaligned}
 use Rattle.nrvs_plan_c.proofs.AtOnce.{ends_within}
 use Rattle.nrvs_plan_c.proofs.EndsTold.{planned_none, planned_store}

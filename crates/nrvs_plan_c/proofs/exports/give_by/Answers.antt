@@ -1,6 +1,6 @@
 use Rattle.std.proofs.Common.{ℕ, [], ◌∷◌, ◌++◌, sym, ap, subst, ◌∙◌}
 use Rattle.std.specs.Prelude.{IfSome}
-use Rattle.vs_plan.specs.declared.planner.Planner.{Planner}
+use Rattle.vs_plan.specs.declared.plans.planner.Planner.{Planner}
 use Rattle.vs_plan.specs.Planner.{IsSpareFor, frames_given}
 use Rattle.vs_plan.specs.Shown.{IsShown}
 use Rattle.nrvs_plan_c.proofs.Keeping.{some_more}

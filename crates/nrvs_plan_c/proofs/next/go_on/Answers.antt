@@ -1,8 +1,8 @@
 use Rattle.std.proofs.Common.{sym, ap, subst, ◌∙◌, arith}
-use Rattle.vs_plan.specs.declared.plan.Step.{Step}
-use Rattle.vs_plan.specs.declared.planner.Phase.{Phase}
+use Rattle.vs_plan.specs.declared.plans.plan.Step.{Step}
+use Rattle.vs_plan.specs.declared.plans.planner.Phase.{Phase}
 use Rattle.vs_plan.specs.Shown.{IsNext}
-use Rattle.nrvs_plan_c.specs.declared.kept.Way.{Way}
+use Rattle.nrvs_plan_c.specs.declared.records.kept.Way.{Way}
 use Rattle.nrvs_plan_c.specs.Kept.{IsWaiting, phase_in, planner_in, request_in, target_in}
 use Rattle.nrvs_plan_c.proofs.Keeping.{right_as}
 use Rattle.nrvs_plan_c.proofs.next.go_on.Goals as goal

@@ -1,5 +1,5 @@
 use Rattle.std.proofs.Common.{◌≤◌, [], sym, subst, arith}
-use Rattle.vs_plan.specs.declared.request.Request.{Request}
+use Rattle.vs_plan.specs.declared.plans.request.Request.{Request}
 use Rattle.vs_plan.specs.Request.{IsRequest}
 use Rattle.nrvs_plan_c.specs.Kept.{target_in}
 use Rattle.nrvs_plan_c.specs.Next.{IsPlanned}

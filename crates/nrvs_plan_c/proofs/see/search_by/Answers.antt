@@ -1,6 +1,6 @@
 use Rattle.std.proofs.Common.{[], sym, ap, subst, ◌∙◌, arith}
 use Rattle.std.specs.FinMap as finite
-use Rattle.vs_plan.specs.declared.planner.Planner.{Planner}
+use Rattle.vs_plan.specs.declared.plans.planner.Planner.{Planner}
 use Rattle.vs_plan.specs.Shown.{IsShown}
 use Rattle.nrvs_plan_c.proofs.Keeping.{one_way}
 use Rattle.nrvs_plan_c.proofs.see.search_by.Goals as goal

@@ -1,7 +1,7 @@
 use Rattle.std.proofs.Common.{◌≡◌, ℕ, ⊎_elim, ap, subst, sym, ◌∙◌, arith}
 use Rattle.std.specs.Prelude.{slice_index}
 use Rattle.vs_types.specs.Entry.{rights_of}
-use Rattle.vs_types.specs.declared.entry.Meaning.TheVariants as entry
+use Rattle.vs_types.specs.declared.entries.entry.Meaning.TheVariants as entry
 use Rattle.vs_plan.specs.Way.{IsWay}
 use Rattle.nrvs_plan_c.specs.Kept.{depth_in, target_of}
 use Rattle.vs_types.specs.Bits.{rights_at}

@@ -1,4 +1,4 @@
-use Rattle.vs_types.specs.declared.depth.Depth.TheVariants.{Four, Five}
+use Rattle.vs_types.specs.declared.addresses.depth.Depth.TheVariants.{Four, Five}
 use Rattle.vs_walk.proofs.Gathered.{dump_few, dump_in_range}
 use Rattle.space_tests.proofs.walk.gathered.Goals as goal
 

@@ -1,6 +1,6 @@
 use Rattle.std.proofs.Common.{◌≡◌, ◌+◌, ◌-◌, ◌<◌, Some, refl, subst, ◌∙◌, arith}
 use Rattle.std.specs.FinMap as finite
-use Rattle.vs_plan.specs.declared.target.Target.{Target}
+use Rattle.vs_plan.specs.declared.plans.target.Target.{Target}
 use Rattle.vs_plan.specs.Target.{frames_end}
 use Rattle.vs_range.specs.Direct.{HasSeenIn}
 use Rattle.vs_range.proofs.direct.see_in.Goals as goal

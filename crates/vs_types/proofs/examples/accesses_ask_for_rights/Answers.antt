@@ -1,9 +1,9 @@
 use Rattle.std.specs.Prelude.{take}
 use Rattle.vs_types.proofs.Computing.{at_both, answers_compute, allow_computes}
 use Rattle.vs_types.specs.Examples.{written_then_run}
-use Rattle.vs_types.specs.declared.access.Access.TheVariants.{Read, Write, Fetch}
-use Rattle.vs_types.specs.declared.access.Mode.TheVariants.{Supervisor, User}
-use Rattle.vs_types.specs.declared.depth.Depth.TheVariants.{Four, Five}
+use Rattle.vs_types.specs.declared.addresses.access.Access.TheVariants.{Read, Write, Fetch}
+use Rattle.vs_types.specs.declared.addresses.access.Mode.TheVariants.{Supervisor, User}
+use Rattle.vs_types.specs.declared.addresses.depth.Depth.TheVariants.{Four, Five}
 use Rattle.vs_types.proofs.examples.accesses_ask_for_rights.Goals as goal
 
 pub returns-clause-answers : goal.returns-clause-answers

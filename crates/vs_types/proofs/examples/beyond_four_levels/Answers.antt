@@ -1,8 +1,8 @@
 use Rattle.std.specs.Prelude.{[], ◌∷◌, take}
 use Rattle.vs_types.proofs.Computing.{answers_compute, tables_compute, look_computes}
 use Rattle.vs_types.specs.Examples.{beyond_four_levels, map_all, one_gigabyte}
-use Rattle.vs_types.specs.declared.depth.Depth.TheVariants.{Five}
-use Rattle.vs_types.specs.declared.page.Size.TheVariants.{K4}
+use Rattle.vs_types.specs.declared.addresses.depth.Depth.TheVariants.{Five}
+use Rattle.vs_types.specs.declared.addresses.page.Size.TheVariants.{K4}
 use Rattle.vs_types.proofs.examples.beyond_four_levels.Goals as goal
 
 pub returns-clause-answers : goal.returns-clause-answers

@@ -1,6 +1,6 @@
 use Rattle.vs_types.proofs.Computing.{answers_compute, tables_compute, look_computes}
 use Rattle.vs_types.specs.Examples.{both_halves}
-use Rattle.vs_types.specs.declared.depth.Depth.TheVariants.{Four}
+use Rattle.vs_types.specs.declared.addresses.depth.Depth.TheVariants.{Four}
 use Rattle.vs_types.proofs.examples.both_halves_of_the_address_space.Goals as goal
 
 pub returns-clause-answers : goal.returns-clause-answers

@@ -1,8 +1,8 @@
 use Rattle.std.specs.Prelude.{[], ◌∷◌}
-use Rattle.vs_types.specs.declared.page.Size.TheVariants.{G1}
+use Rattle.vs_types.specs.declared.addresses.page.Size.TheVariants.{G1}
 use Rattle.vs_types.proofs.Computing.{answers_compute, tables_compute}
 use Rattle.vs_types.specs.Examples.{map_all, past_three_tables}
-use Rattle.vs_types.specs.declared.depth.Depth.TheVariants.{Four}
+use Rattle.vs_types.specs.declared.addresses.depth.Depth.TheVariants.{Four}
 use Rattle.vs_types.proofs.examples.full_names_its_need.Goals as goal
 
 pub returns-clause-answers : goal.returns-clause-answers

@@ -1,6 +1,6 @@
 use Rattle.vs_types.proofs.Computing.{at_both, answers_compute, tables_compute, look_computes}
 use Rattle.vs_types.specs.Examples.{one_gigabyte}
-use Rattle.vs_types.specs.declared.depth.Depth.TheVariants.{Four, Five}
+use Rattle.vs_types.specs.declared.addresses.depth.Depth.TheVariants.{Four, Five}
 use Rattle.vs_types.proofs.examples.gigabyte_page.Goals as goal
 
 pub returns-clause-answers : goal.returns-clause-answers

@@ -1,6 +1,6 @@
 use Rattle.vs_types.proofs.Computing.{at_both, answers_compute, look_computes}
 use Rattle.vs_types.specs.Examples.{last_page}
-use Rattle.vs_types.specs.declared.depth.Depth.TheVariants.{Four, Five}
+use Rattle.vs_types.specs.declared.addresses.depth.Depth.TheVariants.{Four, Five}
 use Rattle.vs_types.proofs.examples.last_page_of_the_address_space.Goals as goal
 
 pub returns-clause-answers : goal.returns-clause-answers

@@ -1,6 +1,6 @@
 use Rattle.vs_types.proofs.Computing.{at_both, answers_compute, tables_compute}
 use Rattle.vs_types.specs.Examples.{large_then_small}
-use Rattle.vs_types.specs.declared.depth.Depth.TheVariants.{Four, Five}
+use Rattle.vs_types.specs.declared.addresses.depth.Depth.TheVariants.{Four, Five}
 use Rattle.vs_types.proofs.examples.overlap_names_a_page_that_begins_before.Goals as goal
 
 pub returns-clause-answers : goal.returns-clause-answers

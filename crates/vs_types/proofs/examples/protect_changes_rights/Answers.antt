@@ -1,6 +1,6 @@
 use Rattle.vs_types.proofs.Computing.{at_both, answers_compute, look_computes}
 use Rattle.vs_types.specs.Examples.{other_rights}
-use Rattle.vs_types.specs.declared.depth.Depth.TheVariants.{Four, Five}
+use Rattle.vs_types.specs.declared.addresses.depth.Depth.TheVariants.{Four, Five}
 use Rattle.vs_types.proofs.examples.protect_changes_rights.Goals as goal
 
 pub returns-clause-answers : goal.returns-clause-answers

@@ -1,7 +1,7 @@
 use Rattle.vs_types.proofs.Computing.{at_both, answers_compute, tables_compute}
 use Rattle.std.specs.Prelude.{take}
 use Rattle.vs_types.specs.Examples.{small_replaced}
-use Rattle.vs_types.specs.declared.depth.Depth.TheVariants.{Four, Five}
+use Rattle.vs_types.specs.declared.addresses.depth.Depth.TheVariants.{Four, Five}
 use Rattle.vs_types.proofs.examples.unmap_frees_tables.Goals as goal
 
 pub returns-clause-answers : goal.returns-clause-answers

@@ -1,6 +1,6 @@
 use Rattle.std.proofs.Common.{ℕ, ◌/◌, ◌%◌, ap, sym, ◌∙◌, arith}
 use Rattle.vs_types.specs.inside.Telling.{action_in}
-use Rattle.vs_types.specs.declared.op.Action.TheVariants.{Map, Protect}
+use Rattle.vs_types.specs.declared.requests.op.Action.TheVariants.{Map, Protect}
 use Rattle.vs_types.proofs.Telling.{protect_above}
 use Rattle.vs_types.proofs.log_entry.action_in.Goals as goal
 

@@ -1,5 +1,5 @@
 use Rattle.std.proofs.Common.{arith, ◌∙◌}
-use Rattle.vs_types.specs.declared.request.Query.TheVariants.{Update}
+use Rattle.vs_types.specs.declared.requests.request.Query.TheVariants.{Update}
 use Rattle.vs_types.proofs.LogWords.{finds_again, spells_update}
 use Rattle.vs_types.proofs.log_entry.unpack.Goals as goal
 use Rattle.vs_types.proofs.log_entry.unpack.Goals.{then-codes-ge128-via-then-codes-ge128, then-codes-ge128-via-else-codes-ge128+then-call-from}

@@ -1,5 +1,5 @@
 use Rattle.std.proofs.Common.{Ok, Err}
-use Rattle.vs_types.specs.declared.frame.TheConstants.{FRAME_WORDS}
+use Rattle.vs_types.specs.declared.addresses.frame.TheConstants.{FRAME_WORDS}
 use Rattle.vs_walk.proofs.Filled.{guessed_place, searched_place}
 use Rattle.vs_walk.proofs.frame_words.place_from.Goals as goal
 

@@ -1,5 +1,5 @@
 use Rattle.std.proofs.Common.{get_or, sym, ap, ◌∙◌, arith}
-use Rattle.vs_types.specs.declared.frame.TheConstants.{FRAME_WORDS}
+use Rattle.vs_types.specs.declared.addresses.frame.TheConstants.{FRAME_WORDS}
 use Rattle.vs_walk.specs.inside.Kept.{filled}
 use Rattle.vs_walk.proofs.Filled.{word_at, no_word_found}
 use Rattle.vs_walk.proofs.frame_words.word_among.Goals.{else-place-places-via-then-place-places+else-places-place, else-place-places-via-else-place-places}

@@ -1,6 +1,6 @@
 use Rattle.std.proofs.Common.{◌≡◌, ◌<◌, List, [], sym, ap, subst, ◌∙◌}
 use Rattle.std.specs.List.{AllPairs}
-use Rattle.vs_types.specs.declared.page.Page.{Page}
+use Rattle.vs_types.specs.declared.addresses.page.Page.{Page}
 use Rattle.vs_walk.specs.Traversal.{traversal, found}
 use Rattle.vs_types.specs.Space.{page_covering}
 use Rattle.vs_walk.specs.Laws.{as_found}

@@ -1,5 +1,5 @@
 use Rattle.std.proofs.Common.{sym, ◌∙◌, subst, Some, None, Option}
-use Rattle.nr_trace.specs.declared.fault.Fault.{Fault}
+use Rattle.nr_trace.specs.declared.refusals.fault.Fault.{Fault}
 use Rattle.nr_chain.specs.Bytes.{GoesOnSo}
 use Rattle.nr_chain.proofs.FoundChains.{right_chain}
 use Rattle.audit_numbers.specs.Chains.{IsFed}

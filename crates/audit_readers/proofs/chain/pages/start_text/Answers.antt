@@ -1,5 +1,5 @@
 use Rattle.std.proofs.Common.{◌≡◌, ◌∙◌, None, Some, ap, option_copied, subst, sym}
-use Rattle.vs_types.specs.declared.depth.Depth.{Depth}
+use Rattle.vs_types.specs.declared.addresses.depth.Depth.{Depth}
 use Rattle.vs_walk.specs.Traversal.{walk_fault}
 use Rattle.audit_texts.specs.Dumps.{dump_text}
 use Rattle.audit_readers.proofs.Beginning.{no_start_shown, start_shown, start_walked}

@@ -1,7 +1,7 @@
 use Rattle.std.proofs.Common.{◌≡◌, map-id, sym, ap, ◌∙◌, List}
 use Rattle.std.proofs.lemmas.Iterator.Consumers.{YieldsList-end, YieldsList-from_first}
 use Rattle.vs_types.specs.Space.{pages}
-use Rattle.vs_types.specs.declared.page.Page.{Page}
+use Rattle.vs_types.specs.declared.addresses.page.Page.{Page}
 use Rattle.audit_texts.specs.Listing.{page_lines}
 use Rattle.audit_texts.proofs.pages.printing.lines_of_space.Goals as goal
 

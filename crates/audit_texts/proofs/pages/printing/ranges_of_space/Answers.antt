@@ -2,7 +2,7 @@ use Rattle.std.proofs.Common.{◌≡◌, map-id, string_bytes, subst, sym, ◌�
 use Rattle.std.proofs.lemmas.Iterator.Consumers.{YieldsList-end, YieldsList-from_first}
 use Rattle.std.proofs.lemmas.Result.{IfOk-weaker}
 use Rattle.vs_types.specs.Space.{pages}
-use Rattle.vs_types.specs.declared.page.Page.{Page}
+use Rattle.vs_types.specs.declared.addresses.page.Page.{Page}
 use Rattle.audit_texts.specs.inside.Taking.{HasJoined}
 use Rattle.audit_texts.proofs.Texts.{space_ends}
 use Rattle.audit_texts.proofs.pages.printing.ranges_of_space.Goals as goal

@@ -1,7 +1,7 @@
 use Rattle.std.proofs.Common.{refl, sym, subst, ◌∙◌}
 use Rattle.std.specs.Prelude.{All}
 use Rattle.vs_types.specs.Operation.{IsAction}
-use Rattle.nr_core.specs.declared.stage.Collected.{Collected}
+use Rattle.nr_core.specs.declared.states.stage.Collected.{Collected}
 use Rattle.nr_core.proofs.Lists.{noted_good}
 use Rattle.nr_core.proofs.steps.applying.apply_to.Goals as goal
 

@@ -2,7 +2,7 @@ use Rattle.std.proofs.Common.{◌==◌, not, refl, sym, subst}
 use Rattle.std.specs.Prelude.{All}
 use Rattle.std.proofs.lemmas.List.Elements.{All-filter}
 use Rattle.vs_types.specs.Operation.{IsAction}
-use Rattle.nr_core.specs.declared.stage.Collected.{Collected}
+use Rattle.nr_core.specs.declared.states.stage.Collected.{Collected}
 use Rattle.nr_core.proofs.steps.applying.take_from.Goals as goal
 
 pub returns-clause-seen : goal.returns-clause-seen

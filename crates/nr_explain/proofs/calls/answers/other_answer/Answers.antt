@@ -4,7 +4,7 @@ use Rattle.vs_plain.specs.Plain.{BoundedSpace}
 use Rattle.nr_trace.specs.Calls.{request_of}
 use Rattle.nr_trace.specs.Faults.{IsFirst}
 use Rattle.nr_trace.specs.Orders.{answer_in, space_from}
-use Rattle.nr_trace.specs.declared.fault.Fault.TheVariants.{WrongAnswer}
+use Rattle.nr_trace.specs.declared.refusals.fault.Fault.TheVariants.{WrongAnswer}
 use Rattle.nr_trace.proofs.LawsOfCalls.{is_some_from}
 use Rattle.nr_explain.specs.Facts.{IsLastChangeFrom}
 use Rattle.nr_explain.specs.Nearest.{IsMemoryOf, IsNearest}

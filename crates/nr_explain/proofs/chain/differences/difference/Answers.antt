@@ -3,7 +3,7 @@ use Rattle.std.specs.Prelude.{IfOk}
 use Rattle.vs_types.specs.Space.{Space}
 use Rattle.vs_plain.specs.Plain.{BoundedSpace}
 use Rattle.nr_trace.specs.Faults.{HasDump, HasFaultFrom}
-use Rattle.nr_trace.specs.declared.fault.Fault.TheVariants.{Differs}
+use Rattle.nr_trace.specs.declared.refusals.fault.Fault.TheVariants.{Differs}
 use Rattle.nr_explain.specs.Evidence.{IsDifferenceFrom}
 use Rattle.nr_explain.proofs.Differing.{few_applied}
 use Rattle.nr_explain.proofs.chain.differences.difference.Goals as goal

@@ -2,7 +2,7 @@ use Rattle.std.proofs.Common.{◌≡◌, ℕ, refl, ap, sym, subst, lit<}
 use Rattle.vs_types.specs.Space.{Space}
 use Rattle.vs_plain.specs.Plain.{BoundedSpace}
 use Rattle.nr_trace.specs.Faults.{IsFirstFrom}
-use Rattle.nr_trace.specs.declared.fault.Fault.TheVariants.{WrongAnswer}
+use Rattle.nr_trace.specs.declared.refusals.fault.Fault.TheVariants.{WrongAnswer}
 use Rattle.nr_audit.specs.Start.{first_space}
 use Rattle.nr_explain.specs.Evidence.{IsOtherAnswerFrom}
 use Rattle.nr_explain.specs.ChainFacts.{IsOrigin}

@@ -2,7 +2,7 @@ use Rattle.std.proofs.Common.{◌≡◌, ap, sym, subst}
 use Rattle.vs_types.specs.Space.{Space}
 use Rattle.vs_plain.specs.Plain.{BoundedSpace}
 use Rattle.nr_audit.specs.Start.{first_space}
-use Rattle.nr_trace.specs.declared.fault.Fault.TheVariants.{Stale}
+use Rattle.nr_trace.specs.declared.refusals.fault.Fault.TheVariants.{Stale}
 use Rattle.nr_explain.specs.ChainEvidence.{IsStaleTouch}
 use Rattle.nr_explain.specs.inside.Reading.{all_states, space_seen}
 use Rattle.nr_explain.proofs.chain.explaining.explain_touch.Goals as goal

@@ -1,5 +1,5 @@
 use Rattle.std.proofs.Common.{subst}
-use Rattle.nr_trace.specs.declared.fault.Fault.{Fault}
+use Rattle.nr_trace.specs.declared.refusals.fault.Fault.{Fault}
 use Rattle.nr_explain.specs.inside.Firsts.{IsFirstOver}
 use Rattle.nr_audit.specs.Start.{first_space}
 use Rattle.nr_explain.specs.inside.Reading.{all_states, space_seen}

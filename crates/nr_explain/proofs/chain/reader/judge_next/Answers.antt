@@ -1,13 +1,13 @@
 use Rattle.std.proofs.Common.{IfSome, List, Option, None, Some, take, refl, ap, sym, ◌∙◌, subst}
-use Rattle.nr_trace.specs.declared.fault.Fault.{Fault}
+use Rattle.nr_trace.specs.declared.refusals.fault.Fault.{Fault}
 use Rattle.nr_touch.specs.Tails.{KeepsChanges}
 use Rattle.nr_touch.specs.declared.touches.tail.Left.{Left}
 use Rattle.nr_touch.specs.declared.touches.tail.Tail.{Tail}
 use Rattle.nr_audit.specs.Faults.{IsFirstAfter}
 use Rattle.nr_audit.specs.Met.{HasMet}
 use Rattle.nr_audit.specs.Start.{begins_in}
-use Rattle.nr_audit.specs.declared.met.Met.{Met}
-use Rattle.nr_audit.specs.declared.past.Past.{Past}
+use Rattle.nr_audit.specs.declared.histories.met.Met.{Met}
+use Rattle.nr_audit.specs.declared.histories.past.Past.{Past}
 use Rattle.nr_explain.specs.Progress.{run_in}
 use Rattle.nr_explain.specs.inside.Reading.{all_states, AreTwice}
 use Rattle.nr_explain.specs.declared.chain.progress.Progress.{Progress}

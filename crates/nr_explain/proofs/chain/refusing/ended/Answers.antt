@@ -1,7 +1,7 @@
 use Rattle.std.proofs.Common.{◌≡◌, ℕ, ◌==◌, arith, vec_len, List, [], true, false, Option, Some, None, length, refl, sym, ap, subst, ◌∙◌}
 use Rattle.vs_types.specs.Config.{Layout}
 use Rattle.nr_trace.specs.FirstFault.{HasRefusalAs}
-use Rattle.nr_trace.specs.declared.version.Form.TheVariants as forms
+use Rattle.nr_trace.specs.declared.formats.version.Form.TheVariants as forms
 use Rattle.std.proofs.lemmas.List.{nil_from_length}
 use Rattle.nr_explain.specs.Progress.{ChainState, layout_in, IsSeenOf}
 use Rattle.nr_explain.proofs.Known.{counts_alike, layout_alike, none_seen}

@@ -1,6 +1,6 @@
 use Rattle.std.proofs.Common.{◌≡◌, [], Option, subst, length, min, take, refl, ap, ◌∙◌, arith}
 use Rattle.std.proofs.lemmas.List.{take_min}
-use Rattle.nr_trace.specs.declared.version.Form.TheVariants as forms
+use Rattle.nr_trace.specs.declared.formats.version.Form.TheVariants as forms
 use Rattle.vs_types.specs.Config.{Layout}
 use Rattle.nr_trace.specs.FirstFault.{HasRefusalAs}
 use Rattle.nr_explain.specs.inside.Reading.{all_states}

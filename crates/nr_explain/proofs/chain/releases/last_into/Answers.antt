@@ -1,6 +1,6 @@
 use Rattle.std.proofs.Common.{◌+◌, Option, sym, subst, arith}
 use Rattle.std.proofs.lemmas.Bool.{iff_false}
-use Rattle.vs_types.specs.declared.answer.Answer.{Answer}
+use Rattle.vs_types.specs.declared.requests.answer.Answer.{Answer}
 use Rattle.nr_explain.proofs.LeadingMoments.{all_looks_tried, look_here, look_stays, FindsLookBelow}
 use Rattle.nr_explain.proofs.chain.releases.last_into.Goals as goal
 use Rattle.nr_explain.proofs.chain.releases.last_into.Goals.{then-leads_into, else-leads_into}

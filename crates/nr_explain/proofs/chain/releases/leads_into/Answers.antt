@@ -1,6 +1,6 @@
 use Rattle.std.proofs.Common.{sym, subst}
 use Rattle.std.proofs.lemmas.Bool.{false≢true}
-use Rattle.vs_types.specs.declared.answer.Answer.{Answer}
+use Rattle.vs_types.specs.declared.requests.answer.Answer.{Answer}
 use Rattle.nr_explain.specs.ChainFacts.{LeadsInto}
 use Rattle.nr_explain.proofs.LeadingMoments.{leads_not}
 use Rattle.nr_explain.proofs.chain.releases.leads_into.Goals as goal

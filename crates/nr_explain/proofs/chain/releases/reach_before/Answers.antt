@@ -1,5 +1,5 @@
 use Rattle.std.proofs.Common.{List, Contains, refl, sym, subst, arith}
-use Rattle.vs_types.specs.declared.answer.Answer.{Answer}
+use Rattle.vs_types.specs.declared.requests.answer.Answer.{Answer}
 use Rattle.nr_explain.proofs.chain.releases.reach_before.Goals as goal
 
 pub returns-then-window-gt0 : goal.returns-then-window-gt0

@@ -1,7 +1,7 @@
 use Rattle.std.proofs.Common.{Option, ap, sym, ◌∙◌, subst}
 use Rattle.vs_types.specs.Config.{Layout}
-use Rattle.nr_trace.specs.declared.fault.Fault.{Fault}
-use Rattle.nr_trace.specs.declared.fault.Fault.TheVariants.{StartDiffers}
+use Rattle.nr_trace.specs.declared.refusals.fault.Fault.{Fault}
+use Rattle.nr_trace.specs.declared.refusals.fault.Fault.TheVariants.{StartDiffers}
 use Rattle.nr_explain.specs.inside.Reading.{all_states, space_seen, IsShownSeen}
 use Rattle.nr_explain.specs.inside.Starts.{IsShownInStart}
 use Rattle.nr_explain.specs.declared.chain.progress.Progress.{Progress}

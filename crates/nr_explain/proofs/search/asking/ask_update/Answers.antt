@@ -1,7 +1,7 @@
 use Rattle.std.proofs.Common.{sym, ap, subst, ◌∙◌}
 use Rattle.vs_types.specs.Operation.{IsAction}
 use Rattle.vs_types.specs.Step.{step}
-use Rattle.vs_types.specs.declared.op.Action.{Action}
+use Rattle.vs_types.specs.declared.requests.op.Action.{Action}
 use Rattle.nr_explain.specs.Facts.{asked_address}
 use Rattle.nr_explain.proofs.Asking.{base_is, put_back_free, put_back_none, put_back_page, put_back_well, unmap_fits, with_space}
 use Rattle.nr_explain.proofs.search.asking.ask_update.Goals as goal

@@ -1,5 +1,5 @@
 use Rattle.std.proofs.Common.{ℕ, ◌<◌, get_or}
-use Rattle.vs_types.specs.declared.page.Page.{Page}
+use Rattle.vs_types.specs.declared.addresses.page.Page.{Page}
 use Rattle.nr_explain.specs.inside.Nearest.{LeadsTo}
 use Rattle.nr_explain.proofs.search.memory.address_among.Given as goal
 

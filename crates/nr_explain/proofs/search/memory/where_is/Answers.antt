@@ -1,6 +1,6 @@
 use Rattle.std.proofs.Common.{ℕ, List, Contains, subst, ◌∙◌}
 use Rattle.std.specs.Prelude.{IfNone, IfSome}
-use Rattle.vs_types.specs.declared.page.Page.{Page}
+use Rattle.vs_types.specs.declared.addresses.page.Page.{Page}
 use Rattle.nr_explain.specs.inside.Nearest.{LeadsTo}
 use Rattle.nr_explain.proofs.Memories.{page_listed, where_found}
 use Rattle.nr_explain.proofs.search.memory.where_is.Goals as goal

@@ -1,7 +1,7 @@
 use Rattle.std.proofs.Common.{◌≡◌, ℕ, ap, sym, ◌∙◌, arith}
 use Rattle.vs_types.specs.Config.{Layout}
 use Rattle.vs_types.specs.Depth.{levels}
-use Rattle.vs_types.specs.declared.depth.Depth.{Depth}
+use Rattle.vs_types.specs.declared.addresses.depth.Depth.{Depth}
 use Rattle.vs_walk.specs.Walk.{as_walk, walk}
 use Rattle.nr_explain.specs.Facts.{entries_read, looks_from}
 use Rattle.nr_explain.proofs.Dumped.{read_as}

@@ -1,8 +1,8 @@
 use Rattle.std.proofs.Common.{ap, subst, sym, ◌∙◌}
 use Rattle.vs_types.specs.Config.{Layout}
-use Rattle.vs_types.specs.declared.depth.Depth.{Depth}
+use Rattle.vs_types.specs.declared.addresses.depth.Depth.{Depth}
 use Rattle.vs_walk.specs.Differences.{HasMissingFrame}
-use Rattle.nr_trace.specs.declared.fault.Fault.TheVariants.{MissingFrame}
+use Rattle.nr_trace.specs.declared.refusals.fault.Fault.TheVariants.{MissingFrame}
 use Rattle.nr_explain.specs.Evidence.{IsMissingTable}
 use Rattle.nr_explain.proofs.Dumped.{read_as}
 use Rattle.nr_explain.proofs.tables.dumps.missing_in_dump.Goals as goal

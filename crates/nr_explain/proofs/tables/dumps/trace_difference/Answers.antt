@@ -3,7 +3,7 @@ use Rattle.std.specs.Prelude.{IfOk}
 use Rattle.vs_types.specs.Space.{Space}
 use Rattle.vs_plain.specs.Plain.{BoundedSpace}
 use Rattle.nr_trace.specs.Faults.{HasDump, HasFaultFrom}
-use Rattle.nr_trace.specs.declared.fault.Fault.TheVariants.{Differs}
+use Rattle.nr_trace.specs.declared.refusals.fault.Fault.TheVariants.{Differs}
 use Rattle.nr_explain.specs.Evidence.{IsDifferenceFrom}
 use Rattle.nr_explain.proofs.FirstFaults.{few_before_differs}
 use Rattle.nr_explain.proofs.tables.dumps.trace_difference.Goals as goal

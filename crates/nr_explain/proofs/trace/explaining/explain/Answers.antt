@@ -1,6 +1,6 @@
 use Rattle.std.proofs.Common.{◌≡◌, inl, inr, refl, subst, sym}
 use Rattle.std.specs.Prelude.{IsSome}
-use Rattle.nr_trace.specs.declared.fault.Fault.{Fault}
+use Rattle.nr_trace.specs.declared.refusals.fault.Fault.{Fault}
 use Rattle.nr_explain.specs.Dumps.{replica_of}
 use Rattle.nr_explain.proofs.FirstFaults.{first_of_its_dump}
 use Rattle.nr_explain.proofs.trace.explaining.explain.Goals as goal

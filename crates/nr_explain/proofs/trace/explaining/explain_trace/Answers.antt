@@ -1,6 +1,6 @@
 use Rattle.std.proofs.Common.{subst}
 use Rattle.nr_audit.specs.Verdict.{IsTrace, IsVerdictOn}
-use Rattle.nr_audit.specs.declared.verdict.Verdict.{Verdict}
+use Rattle.nr_audit.specs.declared.verdicts.verdict.Verdict.{Verdict}
 use Rattle.nr_audit.proofs.Traces.{first_of_trace}
 use Rattle.nr_explain.proofs.trace.explaining.explain_trace.Goals as goal
 

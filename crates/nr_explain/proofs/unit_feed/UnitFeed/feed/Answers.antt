@@ -3,7 +3,7 @@ use Rattle.std.proofs.lemmas.List.Elements.{All-from_get_or}
 use Rattle.nr_trace.specs.FirstFault.{HasRefusalAs}
 use Rattle.nr_trace.specs.Feed.{Fed, Feeds, HasNoFaultYet}
 use Rattle.nr_trace.specs.Feed.Fed.{Taken}
-use Rattle.nr_trace.specs.declared.version.Form.TheVariants as forms
+use Rattle.nr_trace.specs.declared.formats.version.Form.TheVariants as forms
 use Rattle.nr_explain.specs.Units.{IsBadUnitAs}
 use Rattle.nr_explain.specs.inside.Ends.{taken}
 use Rattle.nr_explain.proofs.BadUnits.{bad_unit_lasts, refused_alone}

@@ -1,5 +1,5 @@
 use Rattle.std.proofs.Common.{ap, ◌∙◌}
-use Rattle.vs_types.specs.declared.depth.Depth.TheVariants.{Five}
+use Rattle.vs_types.specs.declared.addresses.depth.Depth.TheVariants.{Five}
 use Rattle.nr_node.specs.inside.Told.{Told}
 use Rattle.nr_node.proofs.told.Told.entry.Goals as goal
 

@@ -1,7 +1,7 @@
 use Rattle.std.proofs.Common.{◌≡◌, ℕ, ◌+◌, ◌*◌, ◌/◌, ◌%◌, ◌^◌, ◌<◌, List, [], ◌∷◌, ap, ◌∙◌, arith}
 use Rattle.std.specs.Prelude.{slice_index}
 use Rattle.vs_types.specs.LogEntry.{log_words}
-use Rattle.vs_types.specs.declared.depth.Depth.TheVariants.{Five}
+use Rattle.vs_types.specs.declared.addresses.depth.Depth.TheVariants.{Five}
 use Rattle.vs_types.specs.declared.log_entry.LogEntry.{LogEntry}
 use Rattle.vs_types.proofs.OneEntry.{spells_told, tells_it}
 use Rattle.nr_ring.proofs.Fetches.{rest_low}

@@ -2,7 +2,7 @@ use Rattle.std.proofs.Common.{◌≤◌, ap, sym, subst, arith}
 use Rattle.nr_ring.specs.Pass.{Known}
 use Rattle.nr_ring.specs.LogHistory.{completed, log_after}
 use Rattle.nr_replicas.specs.Replicas.{HasHeard}
-use Rattle.nr_ring.specs.declared.tails.Tails.{Tails}
+use Rattle.nr_ring.specs.declared.ring.tails.Tails.{Tails}
 use Rattle.nr_replicas.proofs.Hearing.{heard_on, looked_and_heard, looked_heard}
 use Rattle.nr_replicas.proofs.replicas.Replicas.ask.Goals as goal
 

@@ -1,7 +1,7 @@
 use Rattle.std.proofs.Common.{◌≡◌, sym, ap, ◌∙◌, subst}
 use Rattle.vs_types.specs.Operation.{IsAction}
 use Rattle.vs_types.specs.Step.{step}
-use Rattle.vs_types.specs.declared.op.Action.TheVariants.{Map, Unmap, Protect}
+use Rattle.vs_types.specs.declared.requests.op.Action.TheVariants.{Map, Unmap, Protect}
 use Rattle.nr_touch.proofs.StepChanges.{map_change, unmap_change, protect_change}
 use Rattle.nr_touch.proofs.changes.change.change_of.Goals as goal
 

@@ -2,7 +2,7 @@ use Rattle.std.proofs.Common.{Vec, Global, ◌≡◌, ℕ, ◌+◌, ◌<◌, len
 use Rattle.std.specs.Option.{option_map}
 use Rattle.std.proofs.lemmas.List.{get_or_read, get_or-set_other, get_or-set_same, length-set}
 use Rattle.nr_trace.specs.Calls.{reply_in, Response}
-use Rattle.nr_trace.specs.declared.event.Event.{Event}
+use Rattle.nr_trace.specs.declared.recordings.event.Event.{Event}
 use Rattle.nr_trace.proofs.LawsOfCalls.{read_event}
 use Rattle.nr_touch.specs.inside.Changes.{AreRepliesBelow}
 use Rattle.nr_touch.proofs.Replayed.{all_replies, answered_at, next_reply, no_replies}

@@ -1,7 +1,7 @@
 use Rattle.std.proofs.Common.{◌≡◌, ◌+◌, ◌<◌}
 use Rattle.vs_types.specs.Access.{allows}
 use Rattle.vs_types.specs.Codes.{rights_code}
-use Rattle.vs_types.specs.declared.page.Rights.{Rights}
+use Rattle.vs_types.specs.declared.addresses.page.Rights.{Rights}
 use Rattle.nr_touch.specs.inside.Sights.{HasSight}
 use Rattle.nr_touch.proofs.changes.sights.has_rights.Given as goal
 

@@ -2,7 +2,7 @@ use Rattle.std.proofs.Common.{◌≡◌, sym, ap, ◌∙◌, subst, None}
 use Rattle.std.specs.FinMap as finite
 use Rattle.vs_types.specs.Space.{Space, least_overlapped}
 use Rattle.vs_types.specs.Step.{step}
-use Rattle.vs_types.specs.declared.op.Action.{Action}
+use Rattle.vs_types.specs.declared.requests.op.Action.{Action}
 use Rattle.vs_plain.specs.Plain.{BoundedSpace}
 use Rattle.nr_touch.proofs.Undone.{page_base, page_comes_back, page_goes, page_is_free, unmapped}
 use Rattle.nr_touch.proofs.changes.undo.undo.Goals as goal

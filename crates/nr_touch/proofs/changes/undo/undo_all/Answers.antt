@@ -1,8 +1,8 @@
 use Rattle.std.proofs.Common.{◌≡◌, ℕ, ◌+◌, ◌-◌, ◌<◌, false, List, length, get_or, take, sym, ap, ◌∙◌, subst, refl, arith}
 use Rattle.std.proofs.lemmas.List.{take_all}
 use Rattle.vs_types.specs.Space.{Space}
-use Rattle.vs_types.specs.declared.depth.Depth.{Depth}
-use Rattle.vs_types.specs.declared.page.Size.TheVariants.{K4}
+use Rattle.vs_types.specs.declared.addresses.depth.Depth.{Depth}
+use Rattle.vs_types.specs.declared.addresses.page.Size.TheVariants.{K4}
 use Rattle.vs_plain.specs.Plain.{BoundedSpace}
 use Rattle.nr_touch.specs.declared.changes.change.Change.{Change}
 use Rattle.nr_touch.specs.inside.Undo.{ComesFrom, LeadsTo}

@@ -1,6 +1,6 @@
 use Rattle.std.proofs.Common.{◌≡◌, ◌∙◌, ℕ, inl, inr, Contains, sym}
 use Rattle.vs_types.specs.Space.{Holds}
-use Rattle.vs_types.specs.declared.page.Page.{Page}
+use Rattle.vs_types.specs.declared.addresses.page.Page.{Page}
 use Rattle.nr_touch.specs.declared.changes.change.PlacedChange.{PlacedChange}
 use Rattle.nr_touch.proofs.IndexRows.{one_further, same_last}
 use Rattle.nr_touch.proofs.releases.index.changed_now.Goals as goal

@@ -1,8 +1,8 @@
 use Rattle.std.proofs.Common.{◌≡◌, ℕ, ◌%◌, Some, sym, ap, ◌∙◌, subst, arith}
 use Rattle.vs_types.specs.Page.{bytes_of}
-use Rattle.vs_types.specs.declared.answer.Answer.TheVariants.{Mapped}
-use Rattle.vs_types.specs.declared.page.Page.{Page}
-use Rattle.vs_types.specs.declared.page.Size.{Size}
+use Rattle.vs_types.specs.declared.requests.answer.Answer.TheVariants.{Mapped}
+use Rattle.vs_types.specs.declared.addresses.page.Page.{Page}
+use Rattle.vs_types.specs.declared.addresses.page.Size.{Size}
 use Rattle.vs_types.proofs.Pages.{same_page}
 use Rattle.nr_touch.proofs.IndexedPages.{aligned_page, begun, looks_begun, roomy_page}
 use Rattle.nr_touch.proofs.releases.index.page_from.Goals as goal

@@ -4,7 +4,7 @@ use Rattle.std.specs.Map.Iter.{deref}
 use Rattle.std.proofs.lemmas.Bool.{false≢true}
 use Rattle.std.proofs.lemmas.Map.Iter.{iter_end}
 use Rattle.std.proofs.lemmas.Option.{slice_get_within}
-use Rattle.vs_types.specs.declared.page.Page.{Page}
+use Rattle.vs_types.specs.declared.addresses.page.Page.{Page}
 use Rattle.nr_touch.proofs.IndexRows.{one_more, row_found}
 use Rattle.nr_touch.proofs.QuietRows.{NoneAt}
 use Rattle.nr_touch.proofs.Sighted.{map_contains}

@@ -1,5 +1,5 @@
 use Rattle.std.proofs.Common.{ℕ, List, Contains, subst, arith}
-use Rattle.vs_types.specs.declared.page.Page.{Page}
+use Rattle.vs_types.specs.declared.addresses.page.Page.{Page}
 use Rattle.vs_types.proofs.Spaces.{holds_listed}
 use Rattle.nr_touch.specs.Tails.{IsLeft}
 use Rattle.nr_touch.specs.inside.Listed.{AreListed}

@@ -1,6 +1,6 @@
 use Rattle.std.proofs.Common.{inl, inr, sym, ◌∙◌, subst}
 use Rattle.std.proofs.lemmas.Bool.{false≢true}
-use Rattle.vs_types.specs.declared.page.Page.{Page}
+use Rattle.vs_types.specs.declared.addresses.page.Page.{Page}
 use Rattle.nr_touch.specs.inside.Blocks.{IsBlockOf}
 use Rattle.nr_touch.specs.inside.Reached.{LeadsBy}
 use Rattle.nr_touch.proofs.releases.reaching.leads_in.Goals as goal

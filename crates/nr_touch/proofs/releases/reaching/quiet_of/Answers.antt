@@ -1,6 +1,6 @@
 use Rattle.std.proofs.Common.{◌≡◌, Option, Some, None, IfSome, refl, sym, subst}
 use Rattle.vs_types.specs.Space.{Space, Holds}
-use Rattle.vs_types.specs.declared.page.Page.{Page}
+use Rattle.vs_types.specs.declared.addresses.page.Page.{Page}
 use Rattle.nr_touch.specs.Tails.{IsLeft}
 use Rattle.nr_touch.specs.inside.Indexed.{HasPages, IsIndexed}
 use Rattle.nr_touch.specs.inside.Listed.{AreListed, HasRoom}

@@ -1,5 +1,5 @@
 use Rattle.std.proofs.Common.{◌≡◌, ℕ, List, Contains, length, ap, sym, ◌∙◌, subst}
-use Rattle.vs_types.specs.declared.page.Page.{Page}
+use Rattle.vs_types.specs.declared.addresses.page.Page.{Page}
 use Rattle.nr_touch.specs.Tails.{AreSound}
 use Rattle.nr_touch.specs.inside.Levels.{left_in, AreLevels}
 use Rattle.nr_touch.specs.inside.Reached.{AreSeen}

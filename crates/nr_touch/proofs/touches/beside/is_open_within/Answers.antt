@@ -1,6 +1,6 @@
 use Rattle.std.proofs.Common.{IsTrue}
 use Rattle.std.proofs.lemmas.Bool.Decides.{not_from_Decides}
-use Rattle.vs_types.specs.declared.page.Size.TheVariants.{K4, M2, G1}
+use Rattle.vs_types.specs.declared.addresses.page.Size.TheVariants.{K4, M2, G1}
 use Rattle.nr_touch.proofs.Tests.{yes}
 use Rattle.nr_touch.proofs.TouchesBeside.{none_of_sizes, open_of_size}
 use Rattle.nr_touch.proofs.touches.beside.is_open_within.Goals as goal

@@ -1,6 +1,6 @@
 use Rattle.std.proofs.Common.{IsTrue}
 use Rattle.std.proofs.lemmas.Bool.Decides.{not_from_Decides}
-use Rattle.vs_types.specs.declared.page.Size.TheVariants.{K4, M2, G1}
+use Rattle.vs_types.specs.declared.addresses.page.Size.TheVariants.{K4, M2, G1}
 use Rattle.nr_touch.proofs.Looked.{in_sizes, of_size}
 use Rattle.nr_touch.proofs.Tests.{yes}
 use Rattle.nr_touch.proofs.touches.between.is_answered_between.Goals as goal

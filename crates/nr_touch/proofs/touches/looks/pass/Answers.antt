@@ -1,7 +1,7 @@
 use Rattle.std.proofs.Common.{sym, ap, ◌∙◌, ◌++◌, ◌∷◌, [], reverse}
 use Rattle.std.proofs.lemmas.Bool.{false≢true, false_from_ne_true}
 use Rattle.vs_types.specs.Page.{covers}
-use Rattle.vs_types.specs.declared.answer.Answer.{Answer}
+use Rattle.vs_types.specs.declared.requests.answer.Answer.{Answer}
 use Rattle.nr_touch.proofs.cuts.Looks.{ended_passed, looks_ended, looks_passed, reversed_more}
 use Rattle.nr_touch.proofs.touches.looks.pass.Goals as goal
 

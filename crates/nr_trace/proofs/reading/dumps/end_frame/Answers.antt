@@ -1,7 +1,7 @@
 use Rattle.std.proofs.Common.{ℕ, ◌-◌, List, ◌++◌, Some, subst, sym, arith}
 use Rattle.vs_walk.specs.Dump.{Image}
 use Rattle.nr_trace.specs.inside.Progress.{AtWords, BehindFrames, Belongs, HasRead, frame_begun, opened_spelling, whole_of, words_begun}
-use Rattle.nr_trace.specs.declared.refusal.Refusal.{Refusal}
+use Rattle.nr_trace.specs.declared.refusals.refusal.Refusal.{Refusal}
 use Rattle.nr_trace.specs.declared.reading.reader.Reader.TheVariants.{Frame}
 use Rattle.nr_trace.proofs.Frames.{dump_taken, frame_taken, grown, grown_belongs}
 use Rattle.nr_trace.proofs.reading.dumps.end_frame.Goals as goal

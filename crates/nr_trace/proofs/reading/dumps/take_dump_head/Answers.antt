@@ -1,9 +1,9 @@
 use Rattle.std.proofs.Common.{◌≡◌, ℕ, length, ap, ◌∙◌, arith}
 use Rattle.nr_trace.specs.FirstFault.{refusal_at}
 use Rattle.nr_trace.specs.inside.Progress.{Ahead}
-use Rattle.nr_trace.specs.declared.fault.Format.TheVariants.{BadCount}
+use Rattle.nr_trace.specs.declared.refusals.fault.Format.TheVariants.{BadCount}
 use Rattle.nr_trace.specs.declared.reading.reader.Reader.TheVariants.{Dumps}
-use Rattle.nr_trace.specs.declared.refusal.TraceUnit.TheVariants as units
+use Rattle.nr_trace.specs.declared.refusals.refusal.TraceUnit.TheVariants as units
 use Rattle.nr_trace.proofs.Units.{refused_by}
 use Rattle.nr_trace.proofs.DumpHeads.{head_belongs, head_refused, head_taken, head_whole}
 use Rattle.nr_trace.proofs.reading.dumps.take_dump_head.Goals as goal

@@ -3,9 +3,9 @@ use Rattle.std.specs.FinMap as finite
 use Rattle.nr_trace.specs.FirstFault.{AtFrames, IsNext, and_then, refusal_at}
 use Rattle.nr_trace.specs.Spelling.{frame_number}
 use Rattle.nr_trace.specs.inside.Progress.{Ahead, BehindFrames, HasRead, frames_of, said}
-use Rattle.nr_trace.specs.declared.fault.Format.{Format}
-use Rattle.nr_trace.specs.declared.refusal.Refusal.{Refusal}
-use Rattle.nr_trace.specs.declared.refusal.TraceUnit.{TraceUnit}
+use Rattle.nr_trace.specs.declared.refusals.fault.Format.{Format}
+use Rattle.nr_trace.specs.declared.refusals.refusal.Refusal.{Refusal}
+use Rattle.nr_trace.specs.declared.refusals.refusal.TraceUnit.{TraceUnit}
 use Rattle.nr_trace.specs.declared.reading.reader.OpenFrame.{OpenFrame}
 use Rattle.nr_trace.specs.declared.reading.reader.Reader.TheVariants.{Frame, Words}
 use Rattle.nr_trace.proofs.LawsOfUnits.{number_64}

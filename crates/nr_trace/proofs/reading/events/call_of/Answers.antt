@@ -1,8 +1,8 @@
 use Rattle.std.proofs.Common.{◌≡◌, ◌∷◌, ◌++◌, subst, sym, ◌∙◌, arith}
 use Rattle.vs_types.specs.Finds.{Finds}
-use Rattle.vs_types.specs.declared.fields.RequestFields.{RequestFields}
+use Rattle.vs_types.specs.declared.requests.fields.RequestFields.{RequestFields}
 use Rattle.nr_trace.specs.inside.Reading.{IsAskedIn, SpellsEvent}
-use Rattle.nr_trace.specs.declared.event.Asked.{Asked}
+use Rattle.nr_trace.specs.declared.recordings.event.Asked.{Asked}
 use Rattle.nr_trace.proofs.EventsApart.{call_bytes, CallFits}
 use Rattle.nr_trace.proofs.Events.{no_call}
 use Rattle.nr_trace.proofs.Touches.{call_spelled}

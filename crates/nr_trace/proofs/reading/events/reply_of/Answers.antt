@@ -1,7 +1,7 @@
 use Rattle.std.proofs.Common.{◌≡◌, ◌∷◌, ◌++◌, subst, sym, arith}
 use Rattle.vs_types.specs.Finds.{Finds}
 use Rattle.nr_trace.specs.inside.Reading.{SpellsEvent}
-use Rattle.nr_trace.specs.declared.fields.AnswerFields.{AnswerFields}
+use Rattle.nr_trace.specs.declared.formats.fields.AnswerFields.{AnswerFields}
 use Rattle.nr_trace.proofs.EventsApart.{reply_bytes, ReplyFits}
 use Rattle.nr_trace.proofs.Events.{no_reply}
 use Rattle.nr_trace.proofs.reading.events.reply_of.Goals as goal

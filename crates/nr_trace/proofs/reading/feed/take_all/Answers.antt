@@ -1,14 +1,14 @@
 use Rattle.std.proofs.Common.{ℕ, ◌-◌, List, ◌++◌, length, drop, length-append, length-drop, rules, ap, subst, sym, ◌∙◌, arith}
 use Rattle.std.proofs.lemmas.List.{take_all}
 use Rattle.nr_trace.specs.FirstFault.{refusal_at}
-use Rattle.nr_trace.specs.declared.refusal.TraceUnit.TheVariants as units
-use Rattle.nr_trace.specs.declared.fault.Format.TheVariants.{Trailing}
+use Rattle.nr_trace.specs.declared.refusals.refusal.TraceUnit.TheVariants as units
+use Rattle.nr_trace.specs.declared.refusals.fault.Format.TheVariants.{Trailing}
 use Rattle.vs_types.specs.Refusal.{IfRefused}
 use Rattle.nr_trace.specs.Feed.{IsRefusedAs}
 use Rattle.nr_trace.specs.inside.Progress.{said}
 use Rattle.nr_trace.specs.inside.Feeding.{HasTaken}
-use Rattle.nr_trace.specs.declared.version.Form.{Form}
-use Rattle.nr_trace.specs.declared.version.Form.TheVariants as forms
+use Rattle.nr_trace.specs.declared.formats.version.Form.{Form}
+use Rattle.nr_trace.specs.declared.formats.version.Form.TheVariants as forms
 use Rattle.nr_trace.proofs.Feeding.{all_taken, some_left}
 use Rattle.nr_trace.proofs.reading.feed.take_all.Goals as goal
 

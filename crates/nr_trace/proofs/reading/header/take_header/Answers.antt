@@ -5,8 +5,8 @@ use Rattle.nr_trace.specs.FirstFault.{IsCounts, and_then, counts_bytes, counts_u
 use Rattle.nr_trace.specs.Spelling.{counts, magic, version_word}
 use Rattle.nr_trace.specs.inside.Progress.{Ahead}
 use Rattle.nr_trace.specs.declared.reading.reader.Reader.TheVariants.{Header}
-use Rattle.nr_trace.specs.declared.refusal.Refusal.{Refusal}
-use Rattle.nr_trace.specs.declared.fault.Format.TheVariants.{BadChain, BadCount}
+use Rattle.nr_trace.specs.declared.refusals.refusal.Refusal.{Refusal}
+use Rattle.nr_trace.specs.declared.refusals.fault.Format.TheVariants.{BadChain, BadCount}
 use Rattle.nr_trace.proofs.LawsOfFormat.{BehindCounts}
 use Rattle.nr_trace.proofs.Units.{goes_on, passed, refused, refused_by, size_of_counts}
 use Rattle.nr_trace.proofs.reading.header.take_header.Goals as goal

@@ -3,11 +3,11 @@ use Rattle.std.specs.Prelude.{⊤}
 use lib.Pointwise.{pointwise}
 use Rattle.nr_trace.specs.FirstFault.{magic_of}
 use Rattle.nr_trace.specs.inside.Progress.{Ahead}
-use Rattle.nr_trace.specs.declared.fault.Format.TheVariants.{BadMagic}
-use Rattle.nr_trace.specs.declared.refusal.TraceUnit.TheVariants as units
+use Rattle.nr_trace.specs.declared.refusals.fault.Format.TheVariants.{BadMagic}
+use Rattle.nr_trace.specs.declared.refusals.refusal.TraceUnit.TheVariants as units
 use Rattle.nr_trace.specs.declared.reading.reader.Reader.TheVariants.{Magic, Version}
-use Rattle.nr_trace.specs.declared.version.Form.{Form}
-use Rattle.nr_trace.specs.declared.version.Form.TheVariants as forms
+use Rattle.nr_trace.specs.declared.formats.version.Form.{Form}
+use Rattle.nr_trace.specs.declared.formats.version.Form.TheVariants as forms
 use Rattle.nr_trace.proofs.Units.{refused, refused_by}
 use Rattle.nr_trace.proofs.reading.header.take_magic.Goals as goal
 

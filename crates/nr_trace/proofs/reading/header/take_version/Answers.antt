@@ -5,11 +5,11 @@ use Rattle.nr_trace.specs.Versions.{IsVersionOf, version_code}
 use Rattle.nr_trace.specs.Spelling.{version_word}
 use Rattle.nr_trace.specs.FirstFault.{AtCounts, magic_of}
 use Rattle.nr_trace.specs.inside.Progress.{Ahead}
-use Rattle.nr_trace.specs.declared.fault.Format.TheVariants.{BadVersion}
+use Rattle.nr_trace.specs.declared.refusals.fault.Format.TheVariants.{BadVersion}
 use Rattle.nr_trace.specs.declared.reading.reader.Reader.TheVariants.{Version}
-use Rattle.nr_trace.specs.declared.refusal.TraceUnit.TheVariants as units
-use Rattle.nr_trace.specs.declared.version.Version as versions
-use Rattle.nr_trace.specs.declared.version.Version.TheVariants.{V1}
+use Rattle.nr_trace.specs.declared.refusals.refusal.TraceUnit.TheVariants as units
+use Rattle.nr_trace.specs.declared.formats.version.Version as versions
+use Rattle.nr_trace.specs.declared.formats.version.Version.TheVariants.{V1}
 use Rattle.nr_trace.proofs.LawsOfSpelling.{magic_is}
 use Rattle.nr_trace.proofs.LawsOfUnits.{number_16}
 use Rattle.nr_trace.proofs.Taken.{only_front}

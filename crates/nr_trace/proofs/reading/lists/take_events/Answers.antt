@@ -3,7 +3,7 @@ use Rattle.std.proofs.lemmas.List.{length-append}
 use Rattle.vs_types.specs.Refusal.{IfRefused}
 use Rattle.nr_trace.specs.FirstFault.{AtEvents, IsRefusedBy}
 use Rattle.nr_trace.specs.inside.Reading.{AreRecorded, IsBadEvent}
-use Rattle.nr_trace.specs.declared.event.Event.{Event}
+use Rattle.nr_trace.specs.declared.recordings.event.Event.{Event}
 use Rattle.nr_trace.proofs.Spelled.{front_of}
 use Rattle.nr_trace.proofs.Taken.{as_many_events, events_in_range, events_taken, events_refused}
 use Rattle.nr_trace.proofs.reading.lists.take_events.Goals as goal

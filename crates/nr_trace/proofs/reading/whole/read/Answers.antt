@@ -1,6 +1,6 @@
 use Rattle.std.proofs.Common.{◌≡◌, rules, subst}
 use Rattle.vs_types.specs.Refusal.{IfRefused}
-use Rattle.vs_types.specs.declared.refusal.Fail.TheVariants.{Memory}
+use Rattle.vs_types.specs.declared.requests.refusal.Fail.TheVariants.{Memory}
 use Rattle.nr_trace.specs.FirstFault.{HasFormatFault}
 use Rattle.nr_trace.specs.Feed.{Ends}
 use Rattle.nr_trace.proofs.OnlySpelled.{first_refused, only_memory, first_taken, only_spelled}

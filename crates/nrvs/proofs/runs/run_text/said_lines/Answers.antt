@@ -1,6 +1,6 @@
 use Rattle.std.proofs.Common.{◌≡◌, ℕ, suc, ◌+◌, ◌++◌, List, ap, ap₂, sym, ◌∙◌, get_or, take, arith}
 use Rattle.std.specs.List.{flat_map}
-use Rattle.nr_serve.specs.declared.said.Said.{Said}
+use Rattle.nr_serve.specs.declared.endings.said.Said.{Said}
 use Rattle.nrvs.specs.RunText.{said_line, thread_lines}
 use Rattle.nrvs.proofs.RunTexts.{lines_of, next_lines}
 use Rattle.nrvs.proofs.runs.run_text.said_lines.Goals as goal

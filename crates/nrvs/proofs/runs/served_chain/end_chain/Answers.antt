@@ -1,5 +1,5 @@
 use Rattle.std.proofs.Common.{◌≢◌, ◌∙◌, ℕ, List, Option, ap, map, sym, subst, arith}
-use Rattle.vs_types.specs.declared.request.Query.{Query}
+use Rattle.vs_types.specs.declared.requests.request.Query.{Query}
 use Rattle.audit_readers.proofs.Going.{passed_on}
 use Rattle.audit_readers.specs.declared.fault.ProgFault.{ProgFault}
 use Rattle.audit_readers.specs.declared.fault.ProgFault.TheVariants.{CannotWrite}

@@ -1,5 +1,5 @@
 use Rattle.std.proofs.Common.{◌+◌}
-use Rattle.nr_ring.specs.declared.words.TheConstants.{MOST_PLACES}
+use Rattle.nr_ring.specs.declared.cells.words.TheConstants.{MOST_PLACES}
 use Rattle.nrvs.proofs.runs.served_chain.run_chain_io.Given as goal
 
 -- the log is laid out as the configuration says

@@ -1,5 +1,5 @@
 use Rattle.std.proofs.Common.{◌+◌}
-use Rattle.vs_types.specs.declared.depth.Depth.TheVariants.{Four}
+use Rattle.vs_types.specs.declared.addresses.depth.Depth.TheVariants.{Four}
 use Rattle.nrvs_benchmark.proofs.log.command.make_appends.Given as goal
 
 abbrev pub ghosts-append : goal.ghosts-append

@@ -1,6 +1,6 @@
 use Rattle.std.proofs.Common.{ℕ, List, [], ◌∷◌, ◌++◌, take, sym, ap, subst, ◌∙◌}
 use Rattle.std.proofs.lemmas.List.{take_more}
-use Rattle.vs_types.specs.declared.op.Action.{Action}
+use Rattle.vs_types.specs.declared.requests.op.Action.{Action}
 use Rattle.nrvs_benchmark.specs.Work.{Applies}
 use Rattle.nrvs_benchmark.proofs.Sums.{applies_more}
 use Rattle.nrvs_benchmark.proofs.page_table.measure.apply_all.Goals as goal

@@ -1,6 +1,6 @@
 use Rattle.std.proofs.Common.{Some, sym, ap, ◌∙◌, rules}
 use Rattle.std.specs.FinMap as finite
-use Rattle.vs_types.specs.declared.page.Page.{Page}
+use Rattle.vs_types.specs.declared.addresses.page.Page.{Page}
 use Rattle.vs_plain.specs.inside.Listed.{listed_space}
 use Rattle.vs_plain.proofs.Listed.{put_listed, got_listed}
 use Rattle.vs_plain.proofs.page_map.PageMap.protect.Goals as goal

@@ -1,8 +1,8 @@
 use Rattle.std.proofs.Common.{◌≡◌, Some, refl, sym, ap, ◌∙◌, subst}
 use Rattle.std.specs.FinMap as finite
 use Rattle.vs_types.specs.Space.{Holds, page_at}
-use Rattle.vs_types.specs.declared.op.Action.TheVariants.{Protect}
-use Rattle.vs_types.specs.declared.answer.Answer.TheVariants.{Changed}
+use Rattle.vs_types.specs.declared.requests.op.Action.TheVariants.{Protect}
+use Rattle.vs_types.specs.declared.requests.answer.Answer.TheVariants.{Changed}
 use Rattle.vs_types.proofs.Steps.{protect_space}
 use Rattle.vs_types.proofs.Tables.{rights_tables}
 use Rattle.vs_plain.specs.Plain.{BoundedSpace}

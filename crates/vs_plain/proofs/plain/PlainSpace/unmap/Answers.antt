@@ -1,7 +1,7 @@
 use Rattle.std.proofs.Common.{◌≡◌, ◌+◌, refl, sym, ap, ◌∙◌, arith}
 use Rattle.vs_types.specs.Space.{page_at, table_count}
-use Rattle.vs_types.specs.declared.op.Action.TheVariants.{Unmap}
-use Rattle.vs_types.specs.declared.answer.Answer.TheVariants.{Removed}
+use Rattle.vs_types.specs.declared.requests.op.Action.TheVariants.{Unmap}
+use Rattle.vs_types.specs.declared.requests.answer.Answer.TheVariants.{Removed}
 use Rattle.vs_plain.specs.Plain.{BoundedSpace}
 use Rattle.vs_plain.specs.inside.Place.{no_page}
 use Rattle.vs_plain.proofs.Neighbours.{taken_out, unmap_of_none, unmap_of_page, plain_step}

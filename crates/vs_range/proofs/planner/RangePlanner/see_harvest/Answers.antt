@@ -1,7 +1,7 @@
 use Rattle.std.proofs.Common.{sym, subst, arith}
 use Rattle.vs_range.specs.Planner.{IsAsk, IsHarvestNext, IsMap, IsPageAt, harvest_run}
 use Rattle.vs_types.specs.Page.{bytes_of}
-use Rattle.vs_plan.specs.declared.request.Request.TheVariants.{Ask}
+use Rattle.vs_plan.specs.declared.plans.request.Request.TheVariants.{Ask}
 use Rattle.vs_range.proofs.Harvesting.{harvest_next}
 use Rattle.vs_range.proofs.Seeing.{ends_beyond, ends_here, harvest_of, longest_as, beyond_bytes}
 use Rattle.vs_range.proofs.Taking.{page_links, none_takes, beyond_takes, run_takes}

@@ -3,7 +3,7 @@ use Rattle.vs_types.specs.Page.{bytes_of}
 use Rattle.vs_range.specs.Planner.{IsMap, IsRunNext, IsPageAt}
 use Rattle.vs_range.proofs.Seeing.{ends_beyond, ends_here, protect_next, beyond_bytes}
 use Rattle.vs_range.specs.Planner.{IsInRun}
-use Rattle.vs_plan.specs.declared.request.Request.{Request}
+use Rattle.vs_plan.specs.declared.plans.request.Request.{Request}
 use Rattle.vs_range.proofs.Taking.{page_links, none_takes, beyond_takes, refused_takes, run_takes}
 use Rattle.vs_range.proofs.planner.RangePlanner.see_protect.Goals as goal
 

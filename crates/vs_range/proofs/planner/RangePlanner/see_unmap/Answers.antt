@@ -5,7 +5,7 @@ use Rattle.std.proofs.lemmas.Bool.{lt-ltb}
 use Rattle.vs_range.specs.Planner.{IsMap, IsRunNext, IsPageAt, IsPageWord, HasOther}
 use Rattle.vs_range.proofs.Seeing.{alone_fewer, ends_beyond, unmap_ends, unmap_next, stays_above, beyond_bytes, last_word}
 use Rattle.vs_range.specs.Planner.{IsInRun}
-use Rattle.vs_plan.specs.declared.request.Request.{Request}
+use Rattle.vs_plan.specs.declared.plans.request.Request.{Request}
 use Rattle.vs_range.proofs.Taking.{page_links, none_takes, beyond_takes, refused_takes, run_takes, lone_page}
 use Rattle.vs_range.proofs.planner.RangePlanner.see_unmap.Goals as goal
 

@@ -1,7 +1,7 @@
 use Rattle.std.proofs.Common.{◌-◌, ⊎_elim, refl, ap, sym, subst, ◌∙◌}
 use Rattle.vs_types.specs.Page.{bytes_of, IsPage}
-use Rattle.vs_types.specs.declared.op.Action.TheVariants.{Map}
-use Rattle.vs_types.specs.declared.answer.Answer.TheVariants as answers
+use Rattle.vs_types.specs.declared.requests.op.Action.TheVariants.{Map}
+use Rattle.vs_types.specs.declared.requests.answer.Answer.TheVariants as answers
 use Rattle.vs_space.specs.Table.{PageTable, IsTableStep}
 use Rattle.vs_space.specs.inside.Grow.{IsBelowRoot, IsLeastBase}
 use Rattle.vs_space.proofs.Meets.{descended, met_inside}

@@ -1,7 +1,7 @@
 use Rattle.std.proofs.Common.{◌≡◌, ℕ, ◌+◌, Some, ap, ◌∙◌, arith}
 use Rattle.vs_space.specs.Path.{found_at}
-use Rattle.vs_types.specs.declared.depth.Depth.{Depth}
-use Rattle.vs_types.specs.declared.entry.Meaning.TheVariants as entry
+use Rattle.vs_types.specs.declared.addresses.depth.Depth.{Depth}
+use Rattle.vs_types.specs.declared.entries.entry.Meaning.TheVariants as entry
 use Rattle.vs_space.specs.inside.Grow.{IsBelowRoot}
 use Rattle.vs_space.proofs.Written.{written_at}
 use Rattle.vs_types.proofs.Pages.{canonical_fits}

@@ -1,7 +1,7 @@
 use Rattle.std.proofs.Common.{ℕ, ◌≤◌}
 use Rattle.std.specs.Prelude.{IsSome}
 use Rattle.std.specs.FinMap as finite
-use Rattle.vs_types.specs.declared.depth.Depth.{Depth}
+use Rattle.vs_types.specs.declared.addresses.depth.Depth.{Depth}
 use Rattle.vs_space.specs.inside.Grow.{IsBelowRoot}
 use Rattle.vs_space.proofs.Searches.{IsSearching}
 use Rattle.vs_space.proofs.tables.Tables.least_base.Given as goal

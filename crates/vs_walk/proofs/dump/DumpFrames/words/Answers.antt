@@ -1,6 +1,6 @@
 use Rattle.std.proofs.Common.{◌≡◌, ℕ, ◌+◌, ◌-◌, ◌<◌, List, Some, [], Ok, Err, length, get_or, map, take, drop, sym, ap, ◌∙◌, arith}
 use Rattle.std.proofs.lemmas.List.{get_or-map}
-use Rattle.vs_types.specs.declared.frame.TheConstants.{FRAME_WORDS}
+use Rattle.vs_types.specs.declared.addresses.frame.TheConstants.{FRAME_WORDS}
 use Rattle.vs_walk.specs.Dump.{Image}
 use Rattle.vs_walk.specs.inside.Kept.{paired, filled, words_at}
 use Rattle.vs_walk.proofs.Dumps.{get_of, searched, IsStanding}

@@ -1,5 +1,5 @@
 use Rattle.std.proofs.Common.{◌≡◌, length, sym, ap, ◌∙◌}
-use Rattle.vs_types.specs.declared.frame.TheConstants.{FRAME_WORDS}
+use Rattle.vs_types.specs.declared.addresses.frame.TheConstants.{FRAME_WORDS}
 use Rattle.vs_walk.specs.declared.frame_words.Borrowed.{Borrowed}
 use Rattle.vs_walk.specs.declared.frame_words.Borrowed.TheVariants.{Whole, Nonzero}
 use Rattle.vs_walk.specs.inside.Borrowed.{AreBorrowed, all_words}

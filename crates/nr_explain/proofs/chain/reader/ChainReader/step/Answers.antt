@@ -2,8 +2,8 @@ use Rattle.std.proofs.Common.{◌≡◌, ◌≤◌, ◌+◌, ◌++◌, [], lengt
 use Rattle.nr_chain.proofs.Pieces.{took}
 use Rattle.nr_trace.specs.Feed.Fed.{Taken}
 use Rattle.nr_trace.specs.FirstFault.{HasRefusalAs}
-use Rattle.nr_trace.specs.declared.refusal.Refusal.{Refusal}
-use Rattle.nr_trace.specs.declared.version.Form.TheVariants as forms
+use Rattle.nr_trace.specs.declared.refusals.refusal.Refusal.{Refusal}
+use Rattle.nr_trace.specs.declared.formats.version.Form.TheVariants as forms
 use Rattle.nr_explain.specs.inside.Reading.{all_states, layout_seen}
 use Rattle.nr_explain.specs.inside.Steps.{IsRefusalOf}
 use Rattle.nr_explain.proofs.Feeding.{ends_within, judged, more_reading, more_taken, piece_has, piece_refused, piece_within, seen_here, took_here}

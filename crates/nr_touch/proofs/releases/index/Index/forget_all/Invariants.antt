@@ -1,4 +1,4 @@
-use Rattle.vs_types.specs.declared.page.Page.{Page}
+use Rattle.vs_types.specs.declared.addresses.page.Page.{Page}
 use Rattle.nr_touch.specs.inside.Indexed.{HasOwn, IsIndexed}
 use Rattle.nr_touch.proofs.releases.index.Index.forget_all.Given as goal
 

@@ -1,7 +1,7 @@
 use Rattle.std.proofs.Common.{◌≡◌, List, Contains, map-id, sym, ◌∙◌, subst}
 use Rattle.std.proofs.lemmas.Iterator.Consumers.{YieldsList-end, YieldsList-from_first}
 use Rattle.vs_types.specs.Space.{pages}
-use Rattle.vs_types.specs.declared.page.Page.{Page}
+use Rattle.vs_types.specs.declared.addresses.page.Page.{Page}
 use Rattle.vs_types.proofs.Spaces.{holds_listed}
 use Rattle.nr_touch.specs.inside.Indexed.{IsIndexed}
 use Rattle.nr_touch.proofs.IndexRows.{one_more}

@@ -1,5 +1,5 @@
 use Rattle.std.proofs.Common.{◌≡◌, length, subst, arith}
-use Rattle.vs_types.specs.declared.page.Page.{Page}
+use Rattle.vs_types.specs.declared.addresses.page.Page.{Page}
 use Rattle.nr_touch.specs.inside.Listed.{IsListed}
 use Rattle.nr_touch.proofs.ListedPages.{now_listed, still_listed}
 use Rattle.nr_touch.proofs.ReachedPages.{was_there}

@@ -1,6 +1,6 @@
 use Rattle.std.proofs.Common.{◌≡◌, ℕ, false, Some, ap, ◌∙◌, arith}
 use Rattle.std.proofs.lemmas.List.Elements.{Contains-get_or}
-use Rattle.vs_types.specs.declared.page.Page.{Page}
+use Rattle.vs_types.specs.declared.addresses.page.Page.{Page}
 use Rattle.nr_touch.specs.Tails.{ends_look}
 use Rattle.nr_touch.specs.inside.Changes.{page_before}
 use Rattle.nr_touch.specs.inside.Listed.{AreWithin, IsListed}

@@ -1,5 +1,5 @@
 use Rattle.std.proofs.Common.{◌≡◌, ℕ, ◌<◌, ◌≤◌, false, get_or, length, Some}
-use Rattle.vs_types.specs.declared.page.Page.{Page}
+use Rattle.vs_types.specs.declared.addresses.page.Page.{Page}
 use Rattle.nr_touch.specs.Tails.{ends_look}
 use Rattle.nr_touch.specs.inside.Changes.{page_before}
 use Rattle.nr_touch.specs.inside.Listed.{AreWithin, HasRoom, IsListed}

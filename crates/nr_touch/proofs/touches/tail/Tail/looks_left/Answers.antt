@@ -1,6 +1,6 @@
 use Rattle.std.proofs.Common.{◌≡◌, List, sym, subst}
 use Rattle.std.proofs.lemmas.Result.{IfOk-weaker}
-use Rattle.vs_types.specs.declared.answer.Answer.{Answer}
+use Rattle.vs_types.specs.declared.requests.answer.Answer.{Answer}
 use Rattle.nr_touch.specs.Looks.{looks_left, AreLooksLeft}
 use Rattle.nr_touch.proofs.cuts.Looks.{looks_are}
 use Rattle.nr_touch.proofs.touches.tail.Tail.looks_left.Goals as goal

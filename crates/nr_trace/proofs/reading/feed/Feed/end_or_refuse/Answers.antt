@@ -1,7 +1,7 @@
 use Rattle.std.proofs.Common.{subst, ◌∙◌}
 use Rattle.nr_trace.specs.Feed.{EndsRefused}
 use Rattle.nr_trace.specs.inside.Feeding.{IsFeeding}
-use Rattle.nr_trace.specs.declared.version.Form.TheVariants as forms
+use Rattle.nr_trace.specs.declared.formats.version.Form.TheVariants as forms
 use Rattle.nr_trace.proofs.Feeding.{ended_before, ends, ends_refused, not_stopped}
 use Rattle.nr_trace.proofs.reading.feed.Feed.end_or_refuse.Goals as goal
 

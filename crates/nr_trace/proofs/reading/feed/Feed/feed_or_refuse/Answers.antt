@@ -3,7 +3,7 @@ use Rattle.vs_types.specs.Refusal.{IfRefused}
 use Rattle.nr_trace.specs.Feed.{IsRefusedAs}
 use Rattle.nr_trace.specs.inside.Progress.{said}
 use Rattle.nr_trace.specs.inside.Feeding.{fed, HasCome, IsFeeding}
-use Rattle.nr_trace.specs.declared.version.Form.TheVariants as forms
+use Rattle.nr_trace.specs.declared.formats.version.Form.TheVariants as forms
 use Rattle.nr_trace.proofs.Feeding.{not_stopped, piece_refused, piece_taken, refused_so, still_refused}
 use Rattle.nr_trace.proofs.reading.feed.Feed.feed_or_refuse.Goals as goal
 use Rattle.nr_trace.proofs.reading.feed.Feed.feed_or_refuse.Goals.{in-Open, in-Stopped}

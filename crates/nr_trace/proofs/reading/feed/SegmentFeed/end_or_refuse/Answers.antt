@@ -1,7 +1,7 @@
 use Rattle.std.proofs.Common.{ap, subst, ◌∙◌}
 use Rattle.nr_trace.specs.Feed.{EndsRefused, FedSegment}
 use Rattle.nr_trace.specs.inside.Feeding.{IsFeeding}
-use Rattle.nr_trace.specs.declared.version.Form.TheVariants as forms
+use Rattle.nr_trace.specs.declared.formats.version.Form.TheVariants as forms
 use Rattle.nr_trace.proofs.Feeding.{ends_refused, not_stopped}
 use Rattle.nr_trace.proofs.FeedingSegments.{segment_ended_refused, segment_ends}
 use Rattle.nr_trace.proofs.reading.feed.SegmentFeed.end_or_refuse.Goals as goal

@@ -4,8 +4,8 @@ use Rattle.nr_trace.specs.Feed.{FedSegment, IsRefusedAs}
 use Rattle.nr_trace.specs.Feed.Fed.{Taken}
 use Rattle.nr_trace.specs.inside.Progress.{form_of, said}
 use Rattle.nr_trace.specs.inside.Feeding.{HasTaken, IsFeeding, fed}
-use Rattle.nr_trace.specs.declared.version.Form.{Form}
-use Rattle.nr_trace.specs.declared.version.Form.TheVariants as forms
+use Rattle.nr_trace.specs.declared.formats.version.Form.{Form}
+use Rattle.nr_trace.specs.declared.formats.version.Form.TheVariants as forms
 use Rattle.nr_trace.proofs.Feeding.{not_stopped, refused_so}
 use Rattle.nr_trace.proofs.FeedingSegments.{seen, segment_refused, segment_still_refused, segment_taken}
 use Rattle.nr_trace.proofs.reading.feed.SegmentFeed.feed_or_refuse.Goals as goal

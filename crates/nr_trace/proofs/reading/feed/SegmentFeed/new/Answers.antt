@@ -1,5 +1,5 @@
 use Rattle.std.proofs.Common.{List, ℕ, subst, sym}
-use Rattle.nr_trace.specs.declared.version.Form.TheVariants as forms
+use Rattle.nr_trace.specs.declared.formats.version.Form.TheVariants as forms
 use Rattle.nr_trace.specs.inside.Progress.{unit_bytes}
 use Rattle.nr_trace.specs.inside.Feeding.{AreFewer}
 use Rattle.nr_trace.proofs.Feeding.{sound_from, nothing_begun}

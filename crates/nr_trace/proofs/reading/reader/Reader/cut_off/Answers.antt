@@ -1,7 +1,7 @@
 use Rattle.std.proofs.Common.{◌≡◌, ◌+◌, ◌*◌, ◌++◌, length, length-append, ap, sym, ◌∙◌, arith}
 use Rattle.nr_trace.specs.inside.Progress.{cut_off, unit_of, words_begun}
-use Rattle.nr_trace.specs.declared.fault.Format.TheVariants.{Truncated}
-use Rattle.nr_trace.specs.declared.refusal.Refusal.{Refusal}
+use Rattle.nr_trace.specs.declared.refusals.fault.Format.TheVariants.{Truncated}
+use Rattle.nr_trace.specs.declared.refusals.refusal.Refusal.{Refusal}
 use Rattle.nr_trace.specs.declared.reading.reader.Reader.{Reader}
 use Rattle.nr_trace.specs.declared.reading.reader.Reader.TheVariants.{Words}
 use Rattle.nr_trace.proofs.Whole.{length_begun}

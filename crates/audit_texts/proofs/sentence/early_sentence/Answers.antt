@@ -1,4 +1,0 @@
-use Rattle.audit_texts.proofs.sentence.early_sentence.Goals as goal
-
-pub returns : goal.returns
-returns c = rw c.in_ok-stands.ensures at c.format.ensures.ok

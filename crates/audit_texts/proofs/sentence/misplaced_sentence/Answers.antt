@@ -1,4 +1,0 @@
-use Rattle.audit_texts.proofs.sentence.misplaced_sentence.Goals as goal
-
-pub returns : goal.returns
-returns c = rw c.in_ok-there.ensures at c.format.ensures.ok

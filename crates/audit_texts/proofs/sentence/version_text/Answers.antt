@@ -1,4 +1,0 @@
-use Rattle.audit_texts.proofs.sentence.version_text.Goals as goal
-
-pub returns : goal.returns
-returns c = rw (c.in_ok-read.ensures, c.deref.ensures.value) at c.format.ensures.ok

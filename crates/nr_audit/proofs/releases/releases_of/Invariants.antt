@@ -1,5 +1,0 @@
-use Rattle.nr_audit.specs.inside.Begun.{AreReleasesBelow}
-use Rattle.nr_audit.proofs.releases.releases_of.Given as goal
-
-abbrev pub invariant-loop-made : goal.invariant-loop-made
-invariant-loop-made l = AreReleasesBelow l.segment l.made l.releases.items

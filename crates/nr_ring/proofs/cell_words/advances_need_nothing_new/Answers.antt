@@ -1,5 +1,0 @@
-use Rattle.nr_ring.proofs.Needed.{advance_needs}
-use Rattle.nr_ring.proofs.cell_words.advances_need_nothing_new.Goals as goal
-
-pub returns : goal.returns
-returns c = advance_needs

@@ -1,5 +1,0 @@
-use Rattle.nr_ring.proofs.Needed.{one_word}
-use Rattle.nr_ring.proofs.cell_words.needed_words_are_unique.Goals as goal
-
-pub returns : goal.returns
-returns c = one_word

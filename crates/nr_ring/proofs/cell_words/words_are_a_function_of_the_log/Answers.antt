@@ -1,5 +1,0 @@
-use Rattle.nr_ring.proofs.SameWords.{words_same}
-use Rattle.nr_ring.proofs.cell_words.words_are_a_function_of_the_log.Goals as goal
-
-pub returns : goal.returns
-returns c = words_same

@@ -1,4 +1,0 @@
-use Rattle.nr_ring.proofs.pass.LogPass.new.Goals as goal
-
-pub invariant_of-result : goal.invariant_of-result
-invariant_of-result g c = c.requires

@@ -1,7 +1,0 @@
-use Rattle.std.proofs.Common.{[], ◌∷◌}
-use Rattle.nr_ring.specs.declared.log_event.LogEvent.TheVariants.{Advance}
-use Rattle.nr_ring.proofs.ring_log.RingLog.take.Given as goal
-
--- no entry is stored, so that any ring serves
-abbrev pub ghosts-try_take : goal.ghosts-try_take
-ghosts-try_take g a = record { events = Advance a.replica a.to ∷ []; ring = 0 }

@@ -1,5 +1,0 @@
-use Rattle.std.proofs.Common.{◌≡◌, length, map, take}
-use Rattle.nr_serve.proofs.running.quotas_of.Given as goal
-
-abbrev pub invariant-loop-script : goal.invariant-loop-script
-invariant-loop-script l = l.quotas.items ≡ map (λ script. length script.items) (take l.script-index l.scripts)

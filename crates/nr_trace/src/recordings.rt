@@ -1,0 +1,5 @@
+//! What a trace records: events, calls, and whole runs.
+
+pub(crate) mod event;
+pub(crate) mod recorded;
+pub(crate) mod trace;

@@ -1,0 +1,7 @@
+use Rattle.std.proofs.Common.{◌≡◌, ℕ, ◌%◌, ◌<◌, ◌≤◌, get_or}
+use Rattle.vs_plan.proofs.tables.search.first_present.Given as goal
+
+abbrev pub invariant-loop-index : goal.invariant-loop-index
+invariant-loop-index g l = (g.W.FrameWords.words l.words ≡ g.W.FrameWords.words l.fn.words)
+    × ((k : ℕ) → l.index ≤ k → k < 512 → g.W.FrameWords.is_unread l.words k)
+    × ((k : ℕ) → k < l.index → get_or (g.W.FrameWords.words l.fn.words) k 0 % 2 ≡ 0)

@@ -1,5 +1,0 @@
-use Rattle.vs_types.proofs.AllowedBits.{narrowed_rights}
-use Rattle.vs_types.proofs.entry.narrowed.Goals as goal
-
-pub returns : goal.returns
-returns c = narrowed_rights c.args.allowed c.args.word

@@ -1,0 +1,4 @@
+//! Entries of tables: what their bits mean, and the codes of small enumerations.
+
+pub(crate) mod codes;
+pub(crate) mod entry;
