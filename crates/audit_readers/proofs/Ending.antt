@@ -3,7 +3,7 @@ use Rattle.std.proofs.Common.{◌≡◌, ◌⊎◌, ℕ, ◌++◌, inl, inr, Boo
 use Rattle.vs_types.specs.Space.{Space, pages, IsSpace}
 use Rattle.vs_types.specs.declared.addresses.depth.Depth.{Depth}
 use Rattle.vs_plain.specs.Plain.{BoundedSpace}
-use Rattle.nr_joined.specs.Run.{Run, end_of}
+use Rattle.nr_trace.specs.Run.{Run, end_of}
 use Rattle.nr_audit.specs.Segments.{run_after}
 use Rattle.nr_audit.specs.declared.histories.met.Totals.{Totals}
 use Rattle.nr_chain.specs.Bytes.{EndsWith}

@@ -9,7 +9,7 @@ use Rattle.nr_trace.specs.declared.refusals.fault.Fault.TheVariants.{Format}
 use Rattle.nr_trace.specs.declared.refusals.fault.Format.TheVariants.{Truncated}
 use Rattle.nr_trace.specs.declared.formats.version.Form.TheVariants as forms
 use Rattle.nr_trace.specs.declared.refusals.fault.Fault.{Fault}
-use Rattle.nr_joined.specs.Run.{Run}
+use Rattle.nr_trace.specs.Run.{Run}
 use Rattle.nr_audit.specs.Met.{totals_with}
 use Rattle.nr_audit.specs.Segments.{run_after}
 use Rattle.nr_audit.specs.declared.histories.met.Met.{Met}

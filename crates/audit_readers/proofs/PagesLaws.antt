@@ -9,8 +9,8 @@ use Rattle.nr_trace.specs.declared.refusals.fault.Fault.{Fault}
 use Rattle.nr_audit.proofs.FirstFaults.{one_first_after}
 use Rattle.vs_types.specs.Space.{Space}
 use Rattle.nr_trace.specs.Orders.{space_from}
-use Rattle.nr_joined.specs.Run.{Run, end_of, IsOrderly}
-use Rattle.nr_joined.proofs.Orderly.{space_of_both}
+use Rattle.nr_trace.specs.Run.{Run, end_of, IsOrderly}
+use Rattle.nr_trace.proofs.Orderly.{space_of_both}
 use Rattle.nr_audit.specs.Segments.{run_after}
 use Rattle.std.proofs.lemmas.Option.{same_Some}
 use Rattle.nr_chain.specs.Bytes.{layout_before, BeginsWith, GoesOnSo}

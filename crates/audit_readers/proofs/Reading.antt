@@ -11,7 +11,7 @@ use Rattle.audit_readers.specs.Ends.{IsUnreadable}
 use Rattle.audit_readers.specs.declared.fault.ProgFault.{ProgFault}
 use Rattle.audit_readers.specs.declared.fault.ProgFault.TheVariants.{CannotRead, CannotWrite, Memory}
 use Rattle.nr_trace.specs.declared.refusals.fault.Fault.{Fault}
-use Rattle.nr_joined.specs.Run.{Run}
+use Rattle.nr_trace.specs.Run.{Run}
 use Rattle.nr_audit.specs.Met.{no_totals}
 use Rattle.nr_audit.specs.declared.histories.met.Totals.{Totals}
 use Rattle.nr_chain.specs.Fed.{ChainFed, IsKeptOf}

@@ -10,7 +10,7 @@ use Rattle.nr_audit.specs.Releases.{IsSettled}
 use Rattle.nr_audit.specs.Start.{first_space}
 use Rattle.nr_trace.specs.declared.refusals.fault.Fault.{Fault}
 use Rattle.nr_chain.specs.Bytes.{BeginsWith, GoesOnSo, SpellAll}
-use Rattle.nr_joined.specs.Run.{Run, end_of}
+use Rattle.nr_trace.specs.Run.{Run, end_of}
 use Rattle.nr_chain.specs.Headline.{IsRightChain}
 use Rattle.nr_chain.specs.Parts.{ComesTo, HaveReleases}
 use Rattle.audit_texts.specs.Listing.{pages_text}

@@ -9,7 +9,7 @@ ghost use Rattle.nr_trace.specs.Recording.{Recording};
 ghost use Rattle.nr_trace.specs.Spelling.{Spells};
 ghost use Rattle.nr_chain.specs.Bytes.{GoesOnSo};
 ghost use Rattle.nr_chain.specs.Headline.{IsRightChain};
-ghost use Rattle.nr_joined.specs.Run.{end_of};
+ghost use Rattle.nr_trace.specs.Run.{end_of};
 ghost use Rattle.nr_audit.specs.Start.{first_space};
 ghost use Rattle.audit_readers.specs.ChainAudit.{IsChainAudit};
 ghost use Rattle.audit_readers.specs.ChainPages.{IsChainEnd, IsChainStart, IsSettledBefore, ShowsEnd, ShowsStart, TellsFault};

@@ -19,12 +19,12 @@ use Rattle.nr_trace.proofs.LawsOfCalls.{ordered_from_request, request_is_call}
 use Rattle.nr_trace.proofs.LawsOfOrder.{member_stands, standing_is_member}
 use Rattle.nr_trace.proofs.LawsOfPrecedence.{known_of_read}
 use Rattle.chain_cuts.specs.Cut.{without_dumps, IsCutAt}
-use Rattle.nr_joined.specs.Joined.{calls_behind, joined_traces}
-use Rattle.nr_joined.proofs.Lists.{before_left, before_in}
-use Rattle.nr_joined.proofs.Orders.{space_left}
-use Rattle.nr_joined.proofs.Parts.{call_left, request_left, reply_left, answers_left, answers_to_left, reply_to_left, is_call_left}
-use Rattle.nr_joined.proofs.Parts.{is_update_left, is_update_from_left}
-use Rattle.nr_joined.proofs.Places.{is_read_from_left, placed_left, placed_in, placed_before, PlacedRight, stands_left, known_left, floor_above, knows_more}
+use Rattle.nr_trace.specs.Joined.{calls_behind, joined_traces}
+use Rattle.nr_trace.proofs.Lists.{before_left, before_in}
+use Rattle.nr_trace.proofs.Orders.{space_left}
+use Rattle.nr_trace.proofs.Parts.{call_left, request_left, reply_left, answers_left, answers_to_left, reply_to_left, is_call_left}
+use Rattle.nr_trace.proofs.Parts.{is_update_left, is_update_from_left}
+use Rattle.nr_trace.proofs.Places.{is_read_from_left, placed_left, placed_in, placed_before, PlacedRight, stands_left, known_left, floor_above, knows_more}
 use Rattle.nr_chain.proofs.Recorded.{recorded_both}
 
 -- a call that comes after some entries is one of the run

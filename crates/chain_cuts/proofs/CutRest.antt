@@ -17,13 +17,13 @@ use Rattle.nr_trace.specs.declared.refusals.fault.Fault.TheVariants.{Differs}
 use Rattle.nr_trace.proofs.LawsOfLists.{In, in_filter}
 use Rattle.nr_trace.proofs.LawsOfCalls.{reply_behind_call}
 use Rattle.nr_trace.proofs.LawsOfOrder.{updates_of_order, member_stands}
-use Rattle.nr_joined.specs.Joined.{calls_behind, dump_behind, joined_traces}
-use Rattle.nr_joined.proofs.Lists.{before_right, before_behind, take_behind}
-use Rattle.nr_joined.proofs.Orders.{AreOf, space_both, space_of_updates}
-use Rattle.nr_joined.proofs.Parts.{call_right, request_right, reply_right, reply_behind, HasEarlierCalls}
-use Rattle.nr_joined.proofs.Parts.{answered_right, answers_to_right, reply_to_right, is_call_right}
-use Rattle.nr_joined.proofs.Parts.{is_update_right, is_update_from_right}
-use Rattle.nr_joined.proofs.Places.{is_read_from_right, placed_right, placed_in_right, stands_right, known_right, floor_above, knows_more}
+use Rattle.nr_trace.specs.Joined.{calls_behind, dump_behind, joined_traces}
+use Rattle.nr_trace.proofs.Lists.{before_right, before_behind, take_behind}
+use Rattle.nr_trace.proofs.Orders.{AreOf, space_both, space_of_updates}
+use Rattle.nr_trace.proofs.Parts.{call_right, request_right, reply_right, reply_behind, HasEarlierCalls}
+use Rattle.nr_trace.proofs.Parts.{answered_right, answers_to_right, reply_to_right, is_call_right}
+use Rattle.nr_trace.proofs.Parts.{is_update_right, is_update_from_right}
+use Rattle.nr_trace.proofs.Places.{is_read_from_right, placed_right, placed_in_right, stands_right, known_right, floor_above, knows_more}
 use Rattle.nr_chain.proofs.Recorded.{recorded_both, places_of_both}
 use Rattle.chain_cuts.proofs.CutFront.{stands_within}
 

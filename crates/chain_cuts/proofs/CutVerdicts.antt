@@ -8,10 +8,10 @@ use Rattle.nr_trace.specs.Orders.{recorded_order}
 use Rattle.nr_trace.proofs.LawsOfDumps.{clean_if_faultless}
 use Rattle.nr_trace.specs.Versions.{Follows}
 use Rattle.nr_trace.specs.declared.formats.version.Form.TheVariants as forms
-use Rattle.nr_joined.specs.Run.{Run, end_of, IsOrderly}
-use Rattle.nr_joined.proofs.Associated.{joined_associate}
-use Rattle.nr_joined.proofs.Orderly.{clean_is_orderly, orderly_both}
-use Rattle.nr_joined.proofs.Orderly.{space_of_both as ends_so}
+use Rattle.nr_trace.specs.Run.{Run, end_of, IsOrderly}
+use Rattle.nr_trace.proofs.Associated.{joined_associate}
+use Rattle.nr_trace.proofs.Orderly.{clean_is_orderly, orderly_both}
+use Rattle.nr_trace.proofs.Orderly.{space_of_both as ends_so}
 use Rattle.nr_audit.specs.Start.{begins_in, BeginsRight}
 use Rattle.nr_audit.specs.Releases.{HasRightReleases}
 use Rattle.nr_audit.specs.Touches.{HasRightTouches}
@@ -21,7 +21,7 @@ use Rattle.nr_chain.specs.Bytes.{layout_before, SpellAll, SpellsChain, GoesOnSo}
 use Rattle.chain_cuts.specs.Cut.{orders_of, AreCut, AreRecorded, AreSoundAfter, HasNoDumps, HaveAllCaughtUp, HaveCaughtUp, HaveNoStarts, IsCutAt}
 use Rattle.chain_cuts.specs.Cut.{IsSameRun, MayCome}
 use Rattle.nr_chain.specs.Headline.{traces}
-use Rattle.nr_joined.specs.Joined.{joined_traces}
+use Rattle.nr_trace.specs.Joined.{joined_traces}
 use Rattle.nr_chain.specs.Joined.{Segment, both, joined}
 use Rattle.nr_chain.specs.Run.{AreFaultlessFrom}
 use Rattle.nr_audit.proofs.Judgements.{begins_of, clean_of, faultless_of, releases_of, sound_by}

@@ -25,15 +25,15 @@ use Rattle.nr_trace.proofs.LawsOfDumps.{clean_if_faultless}
 use Rattle.nr_trace.proofs.LawsOfOrder.{standing_is_member}
 use Rattle.nr_trace.proofs.LawsOfPrecedence.{known_of_update, known_of_read}
 use Rattle.chain_cuts.specs.Cut.{without_dumps, IsCutAt}
-use Rattle.nr_joined.specs.Joined.{calls_behind, dump_behind, joined_traces}
-use Rattle.nr_joined.proofs.Lists.{split_at, of_mapped, before_left}
-use Rattle.nr_joined.proofs.Orders.{space_left}
-use Rattle.nr_joined.proofs.Parts.{call_left, call_right, reply_left, reply_from_right, reply_behind, HasEarlierCalls, answered_left}
-use Rattle.nr_joined.proofs.Parts.{answered_right, request_left, request_right}
-use Rattle.nr_joined.proofs.Parts.{answers_to_left, answers_to_right, reply_to_left, reply_to_right, is_call_from_left, is_call_from_right}
-use Rattle.nr_joined.proofs.Parts.{is_update_left, is_update_from_left, is_update_right, is_update_from_right, is_read_right}
-use Rattle.nr_joined.proofs.Places.{is_read_left, placed_left, placed_right, placed_in, PlacedRight, stood_left, stood_right, known_left, known_right}
-use Rattle.nr_joined.proofs.Places.{KnowsMore, floor_above, knows_more}
+use Rattle.nr_trace.specs.Joined.{calls_behind, dump_behind, joined_traces}
+use Rattle.nr_trace.proofs.Lists.{split_at, of_mapped, before_left}
+use Rattle.nr_trace.proofs.Orders.{space_left}
+use Rattle.nr_trace.proofs.Parts.{call_left, call_right, reply_left, reply_from_right, reply_behind, HasEarlierCalls, answered_left}
+use Rattle.nr_trace.proofs.Parts.{answered_right, request_left, request_right}
+use Rattle.nr_trace.proofs.Parts.{answers_to_left, answers_to_right, reply_to_left, reply_to_right, is_call_from_left, is_call_from_right}
+use Rattle.nr_trace.proofs.Parts.{is_update_left, is_update_from_left, is_update_right, is_update_from_right, is_read_right}
+use Rattle.nr_trace.proofs.Places.{is_read_left, placed_left, placed_right, placed_in, PlacedRight, stood_left, stood_right, known_left, known_right}
+use Rattle.nr_trace.proofs.Places.{KnowsMore, floor_above, knows_more}
 use Rattle.nr_chain.proofs.Recorded.{recorded_both, places_of_both}
 use Rattle.chain_cuts.proofs.CutFront.{before_within, front_faultless, clean_front}
 use Rattle.chain_cuts.proofs.CutRest.{space_before_right, space_of_prefix, rest_faultless}

@@ -7,10 +7,10 @@ use Rattle.nr_trace.specs.Orders.{recorded_order}
 use Rattle.nr_trace.specs.Laws.{IsFaultlessFrom}
 use Rattle.nr_trace.proofs.LawsOfDumps.{clean_if_faultless}
 use Rattle.chain_cuts.specs.Cut.{AreCut, AreRecorded, HasNoDumps, IsCutAt}
-use Rattle.nr_joined.specs.Joined.{calls_behind, joined_traces}
+use Rattle.nr_trace.specs.Joined.{calls_behind, joined_traces}
 use Rattle.nr_chain.specs.Joined.{Segment, both, joined}
 use Rattle.nr_chain.specs.Run.{space_behind, AreFaultlessFrom}
-use Rattle.nr_joined.proofs.Orders.{space_both}
+use Rattle.nr_trace.proofs.Orders.{space_both}
 use Rattle.nr_chain.proofs.Recorded.{recorded_both}
 use Rattle.chain_cuts.proofs.CutRest.{log_within}
 use Rattle.chain_cuts.proofs.CutWhole.{cut}

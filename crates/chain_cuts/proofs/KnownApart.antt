@@ -8,11 +8,11 @@ use Rattle.nr_trace.specs.Calls.{Invocation, call_of, Response, reply_of}
 use Rattle.nr_trace.specs.Laws.{HasCleanLog}
 use Rattle.nr_trace.specs.Orders.{known_by}
 use Rattle.nr_trace.proofs.LawsOfCalls.{reply_below}
-use Rattle.nr_joined.specs.Joined.{joined_traces}
-use Rattle.nr_joined.proofs.Lists.{split_at}
-use Rattle.nr_joined.proofs.Orderly.{clean_is_orderly}
-use Rattle.nr_joined.proofs.Parts.{call_left, call_right, reply_behind, reply_from_right, reply_left, reply_right, HasEarlierCalls}
-use Rattle.nr_joined.proofs.Places.{known_left, known_right}
+use Rattle.nr_trace.specs.Joined.{joined_traces}
+use Rattle.nr_trace.proofs.Lists.{split_at}
+use Rattle.nr_trace.proofs.Orderly.{clean_is_orderly}
+use Rattle.nr_trace.proofs.Parts.{call_left, call_right, reply_behind, reply_from_right, reply_left, reply_right, HasEarlierCalls}
+use Rattle.nr_trace.proofs.Places.{known_left, known_right}
 use Rattle.nr_audit.specs.Touches.{known_at, known_when}
 use Rattle.nr_audit.specs.inside.Prefixes.{IsReplyAt}
 use Rattle.nr_audit.proofs.KnownEntries.{known_below, knows_at, KnowsAt}

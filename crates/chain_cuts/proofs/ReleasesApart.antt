@@ -8,12 +8,12 @@ use Rattle.nr_trace.specs.Calls.{Invocation, released_in, released_of, Response,
 use Rattle.nr_trace.specs.Laws.{HasCleanLog}
 use Rattle.nr_trace.specs.Orders.{space_from}
 use Rattle.nr_trace.proofs.LawsOfCalls.{reply_below}
-use Rattle.nr_joined.specs.Joined.{joined_traces}
-use Rattle.nr_joined.specs.Run.{Run, run_with, IsOrderly}
-use Rattle.nr_joined.proofs.Associated.{joined_associate}
-use Rattle.nr_joined.proofs.Lists.{split_at}
-use Rattle.nr_joined.proofs.Orderly.{clean_is_orderly, orderly_both}
-use Rattle.nr_joined.proofs.Parts.{call_left, call_right, reply_behind, reply_left, reply_right, reply_from_right}
+use Rattle.nr_trace.specs.Joined.{joined_traces}
+use Rattle.nr_trace.specs.Run.{Run, run_with, IsOrderly}
+use Rattle.nr_trace.proofs.Associated.{joined_associate}
+use Rattle.nr_trace.proofs.Lists.{split_at}
+use Rattle.nr_trace.proofs.Orderly.{clean_is_orderly, orderly_both}
+use Rattle.nr_trace.proofs.Parts.{call_left, call_right, reply_behind, reply_left, reply_right, reply_from_right}
 use Rattle.nr_touch.specs.Releases.{IsReachable, IsWrongRelease}
 use Rattle.nr_touch.specs.Touches.{IsRightTouch}
 use Rattle.nr_touch.specs.declared.releases.release.Release.{Release}
@@ -24,7 +24,7 @@ use Rattle.nr_chain.specs.Headline.{release_behind}
 use Rattle.nr_audit.proofs.ReleasesBehind.{found_in_time}
 use Rattle.nr_chain.proofs.Touched.{in_time_as, in_time_back, right_front}
 use Rattle.chain_cuts.specs.Cut.{MayCome}
-use Rattle.nr_joined.proofs.Lengths.{many_events}
+use Rattle.nr_trace.proofs.Lengths.{many_events}
 use Rattle.chain_cuts.proofs.TouchesApart.{behind, same_touch}
 
 -- ---- what is given away, and how it is answered

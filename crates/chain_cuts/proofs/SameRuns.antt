@@ -9,8 +9,8 @@ use Rattle.nr_trace.specs.Laws.{IsFaultlessFrom}
 use Rattle.nr_trace.specs.declared.refusals.fault.Fault.{Fault}
 use Rattle.nr_trace.specs.declared.refusals.fault.Fault.TheVariants.{ThreadOpen, WrongAnswer, PrefixPastLog, PrefixShort, MissingFrame, SharedFrame, ReservedBit}
 use Rattle.nr_trace.specs.declared.refusals.fault.Fault.TheVariants.{StrayFrame, Differs}
-use Rattle.nr_joined.specs.Run.{Run}
-use Rattle.nr_joined.specs.Joined.{joined_traces}
+use Rattle.nr_trace.specs.Run.{Run}
+use Rattle.nr_trace.specs.Joined.{joined_traces}
 use Rattle.nr_touch.specs.Releases.{IsWrongRelease}
 use Rattle.nr_touch.specs.Touches.{touch_behind, IsAllowedPrefix, IsAnsweredAt, IsLagging, IsRightBehind, IsRightTouch}
 use Rattle.nr_touch.specs.declared.touches.touch.Touch.{Touch}

@@ -3,8 +3,8 @@ use Rattle.std.proofs.Common.{◌≡◌, ℕ, ◌+◌, ◌<◌, ◌≤◌, inl, 
 use Rattle.std.specs.Prelude.{⊤}
 use Rattle.vs_types.specs.Space.{Space}
 use Rattle.nr_trace.specs.Recording.{Recording}
-use Rattle.nr_joined.specs.Joined.{joined_traces}
-use Rattle.nr_joined.specs.Run.{Run, IsOrderly}
+use Rattle.nr_trace.specs.Joined.{joined_traces}
+use Rattle.nr_trace.specs.Run.{Run, IsOrderly}
 use Rattle.nr_touch.specs.Touches.{touch_behind, IsRightBehind, IsRightTouch}
 use Rattle.nr_touch.specs.declared.touches.touch.Touch.{Touch}
 use Rattle.nr_chain.proofs.Touched.{in_time_at_back, in_time_front, lagging_back, lagging_front}

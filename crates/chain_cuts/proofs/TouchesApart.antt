@@ -6,13 +6,13 @@ use Rattle.nr_trace.specs.Calls.{touch_of, Response, reply_of}
 use Rattle.nr_trace.specs.Laws.{HasCleanLog}
 use Rattle.nr_trace.specs.Orders.{space_from}
 use Rattle.nr_trace.proofs.LawsOfCalls.{reply_behind_call, reply_below}
-use Rattle.nr_joined.proofs.Lengths.{many_events, many_places}
-use Rattle.nr_joined.specs.Joined.{joined_traces}
-use Rattle.nr_joined.specs.Run.{Run, run_with, IsOrderly}
-use Rattle.nr_joined.proofs.Associated.{joined_associate}
-use Rattle.nr_joined.proofs.Lists.{split_at}
-use Rattle.nr_joined.proofs.Orderly.{clean_is_orderly, orderly_both}
-use Rattle.nr_joined.proofs.Parts.{touch_left, touch_right, reply_behind, reply_left, reply_right, reply_from_right}
+use Rattle.nr_trace.proofs.Lengths.{many_events, many_places}
+use Rattle.nr_trace.specs.Joined.{joined_traces}
+use Rattle.nr_trace.specs.Run.{Run, run_with, IsOrderly}
+use Rattle.nr_trace.proofs.Associated.{joined_associate}
+use Rattle.nr_trace.proofs.Lists.{split_at}
+use Rattle.nr_trace.proofs.Orderly.{clean_is_orderly, orderly_both}
+use Rattle.nr_trace.proofs.Parts.{touch_left, touch_right, reply_behind, reply_left, reply_right, reply_from_right}
 use Rattle.nr_touch.specs.Touches.{touch_behind, IsRightBehind}
 use Rattle.nr_touch.specs.declared.touches.touch.Touch.{Touch}
 use Rattle.nr_audit.specs.Touches.{known_when, HasTouch, HasRightTouches}

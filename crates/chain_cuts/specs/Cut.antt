@@ -9,7 +9,7 @@ use Rattle.nr_touch.specs.Touches.{IsFaultOfNone}
 use Rattle.nr_touch.specs.declared.touches.touch.Touch.{Touch}
 use Rattle.nr_audit.specs.Faults.{IsSoundAfter}
 use Rattle.nr_audit.specs.Touches.{known_at, HasTouch}
-use Rattle.nr_joined.specs.Run.{Run, IsOrderly}
+use Rattle.nr_trace.specs.Run.{Run, IsOrderly}
 use Rattle.nr_audit.specs.Segments.{run_after}
 use Rattle.nr_chain.specs.Joined.{Segment, both}
 

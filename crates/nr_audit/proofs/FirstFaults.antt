@@ -11,7 +11,7 @@ use Rattle.nr_trace.specs.Faults.{rank, HasFaultFrom, IsFirstFrom}
 use Rattle.nr_trace.specs.declared.refusals.fault.Fault.{Fault}
 use Rattle.nr_trace.specs.declared.refusals.fault.Fault.TheVariants.{StartMissing, StartShared, StartReserved, StartStray, StartBeyond, StartDiffers, Stale, Reachable}
 use Rattle.nr_trace.proofs.LawsOfFaults.{number_of, one_first}
-use Rattle.nr_joined.specs.Run.{Run}
+use Rattle.nr_trace.specs.Run.{Run}
 use Rattle.nr_audit.specs.Start.{begins_in, space_before}
 use Rattle.nr_audit.specs.Faults.{HasFaultAfter, IsFirstAfter}
 use Rattle.nr_audit.proofs.Starts.{one_start}

@@ -17,7 +17,7 @@ use Rattle.vs_types.specs.declared.requests.refusal.Fail.{Fail}
 use Rattle.vs_types.specs.declared.requests.refusal.Fail.TheVariants.{Memory, Refused}
 use Rattle.nr_audit.specs.inside.Search.{HasFaultOn, HasNoFaultOn, HasNone, HasNoneFrom, IsFirstAmong, IsFirstAmongFrom, IsFirstFromAny, IsFirstOn}
 use Rattle.nr_audit.specs.inside.Search.{HasFaultBehind, IsFirstBehind}
-use Rattle.nr_joined.specs.Run.{Run}
+use Rattle.nr_trace.specs.Run.{Run}
 use Rattle.nr_audit.specs.inside.Passes.{IsCallFault, IsLogFault, IsPositionFault, IsFloorFault, IsAnswerFault, IsTouchFault, IsReleaseFault, IsDumpFault}
 
 -- the faults among these are those of the pass

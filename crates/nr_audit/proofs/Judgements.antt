@@ -6,7 +6,7 @@ use Rattle.std.specs.Prelude.{IfNone}
 use Rattle.vs_types.specs.Refusal.{IfRefused}
 use Rattle.vs_types.specs.declared.requests.refusal.Fail.{Fail}
 use Rattle.vs_types.specs.declared.requests.refusal.Fail.TheVariants.{Memory, Refused}
-use Rattle.nr_joined.specs.Run.{Run}
+use Rattle.nr_trace.specs.Run.{Run}
 use Rattle.vs_types.specs.Space.{Space}
 use Rattle.nr_trace.specs.Recording.{Recording}
 use Rattle.nr_trace.specs.Faults.{Earlier}

@@ -12,11 +12,11 @@ use Rattle.nr_trace.specs.declared.recordings.event.Event.TheVariants as events
 use Rattle.nr_trace.specs.declared.formats.version.Version.{Version}
 use Rattle.nr_trace.proofs.LawsOfCalls.{answered_stands, placed_is_update, reply_behind_call, reply_is_first, reply_that_answers, stands_once, the_some}
 use Rattle.nr_trace.proofs.LawsOfPrecedence.{known_of_update}
-use Rattle.nr_joined.specs.Joined.{joined_traces}
-use Rattle.nr_joined.specs.Run.{Run, IsOrderly}
-use Rattle.nr_joined.proofs.Lists.{split_at}
-use Rattle.nr_joined.proofs.Parts.{answered_right}
-use Rattle.nr_joined.proofs.Places.{placed_in_right}
+use Rattle.nr_trace.specs.Joined.{joined_traces}
+use Rattle.nr_trace.specs.Run.{Run, IsOrderly}
+use Rattle.nr_trace.proofs.Lists.{split_at}
+use Rattle.nr_trace.proofs.Parts.{answered_right}
+use Rattle.nr_trace.proofs.Places.{placed_in_right}
 use Rattle.nr_touch.specs.Touches.{touch_behind, IsAnsweredBefore, IsAnsweredInTime, IsRightTouch, LagsInNothing}
 use Rattle.nr_touch.specs.declared.touches.touch.Touch.{Touch}
 use Rattle.nr_touch.proofs.QuietPages.{right_in_time}

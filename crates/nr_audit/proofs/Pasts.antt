@@ -10,8 +10,8 @@ use Rattle.vs_types.proofs.Lists.{not_in_nil}
 use Rattle.nr_trace.specs.Recording.{IsRecording, Recording}
 use Rattle.nr_trace.specs.Laws.{HasCleanLog}
 use Rattle.nr_trace.specs.Orders.{space_from}
-use Rattle.nr_joined.specs.Run.{Run, end_of, run_with, IsOrderly}
-use Rattle.nr_joined.proofs.Orderly.{clean_is_orderly, space_of_both}
+use Rattle.nr_trace.specs.Run.{Run, end_of, run_with, IsOrderly}
+use Rattle.nr_trace.proofs.Orderly.{clean_is_orderly, space_of_both}
 use Rattle.nr_touch.specs.Tails.{GoesOn, HasIndexes, IsLeft, IsSoundTail, IsTailOf, IsTailOfRun}
 use Rattle.nr_touch.specs.declared.touches.tail.Left.{Left}
 use Rattle.nr_touch.specs.declared.touches.tail.Tail.{Tail}

@@ -15,7 +15,7 @@ use Rattle.nr_trace.specs.declared.recordings.event.Event.{Event}
 use Rattle.nr_trace.specs.declared.recordings.event.Event.TheVariants as events
 use Rattle.nr_trace.specs.declared.recordings.event.Asked.TheVariants as askeds
 use Rattle.nr_trace.proofs.LawsOfCalls.{answers_from, reply_below, reply_that_answers}
-use Rattle.nr_joined.specs.Run.{Run}
+use Rattle.nr_trace.specs.Run.{Run}
 use Rattle.nr_touch.specs.Releases.{AreMemory, FindsReachable}
 use Rattle.nr_touch.specs.declared.releases.release.Release.{Release}
 use Rattle.nr_audit.specs.Releases.{HasRelease, HasRightReleases, IsDoneOrOpen, IsWrongAt}

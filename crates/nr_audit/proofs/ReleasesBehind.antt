@@ -10,8 +10,8 @@ use Rattle.vs_types.specs.declared.addresses.access.Mode.TheVariants.{Supervisor
 use Rattle.vs_types.specs.declared.requests.answer.Answer.TheVariants.{Allowed, Fault}
 use Rattle.vs_types.specs.declared.addresses.page.Page.{Page}
 use Rattle.nr_trace.specs.Recording.{Recording}
-use Rattle.nr_joined.specs.Joined.{joined_traces}
-use Rattle.nr_joined.specs.Run.{Run, end_of, IsOrderly}
+use Rattle.nr_trace.specs.Joined.{joined_traces}
+use Rattle.nr_trace.specs.Run.{Run, end_of, IsOrderly}
 use Rattle.nr_touch.specs.Releases.{IsReachable, IsWrongRelease}
 use Rattle.nr_touch.specs.Tails.{Lingers}
 use Rattle.nr_touch.specs.Touches.{touch_behind, EndsLook, IsAnsweredInTime, IsRightTouch}

@@ -6,7 +6,7 @@ use Rattle.nr_trace.proofs.LawsOfHistories.{history_if_faultless}
 use Rattle.nr_audit.proofs.Judgements.{faultless_of, releases_of}
 use Rattle.nr_audit.proofs.PartsOfVerdicts.{legal_order, dumps_of_order}
 use Rattle.nr_audit.specs.Faults.{IsSoundAfter}
-use Rattle.nr_joined.specs.Run.{Run}
+use Rattle.nr_trace.specs.Run.{Run}
 use Rattle.nr_audit.specs.Start.{begins_in}
 use Rattle.nr_audit.specs.Segments.{IsRightAfter}
 

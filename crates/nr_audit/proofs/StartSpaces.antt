@@ -26,7 +26,7 @@ use Rattle.nr_dump.specs.declared.fault.DumpFault.TheVariants as dumps
 use Rattle.nr_dump.proofs.Faultless.{faultless_fits}
 use Rattle.nr_trace.specs.Recording.{Recording, IsRecording, IsStart}
 use Rattle.nr_trace.specs.Laws.{IsFaultlessFrom}
-use Rattle.nr_joined.specs.Run.{Run, end_of, IsOrderly}
+use Rattle.nr_trace.specs.Run.{Run, end_of, IsOrderly}
 use Rattle.nr_touch.specs.Touches.{IsRightTouch}
 use Rattle.nr_touch.proofs.cuts.Behind.{right_rest}
 use Rattle.nr_audit.specs.Start.{begins_in, space_before, space_of_pages, start_space, BeginsRight, HasPageBeyond, HasStartFault}

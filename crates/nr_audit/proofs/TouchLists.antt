@@ -17,7 +17,7 @@ use Rattle.nr_trace.specs.declared.recordings.event.Event.{Event}
 use Rattle.nr_trace.specs.declared.recordings.event.Event.TheVariants as events
 use Rattle.nr_trace.specs.declared.recordings.event.Asked.{Asked}
 use Rattle.nr_trace.specs.declared.recordings.event.Asked.TheVariants as askeds
-use Rattle.nr_joined.specs.Run.{Run}
+use Rattle.nr_trace.specs.Run.{Run}
 use Rattle.nr_touch.specs.Stale.{FindsStale}
 use Rattle.nr_touch.specs.declared.touches.touch.Touch.{Touch}
 use Rattle.nr_audit.specs.Touches.{known_when, HasRightTouches, HasTouch, IsStale}

@@ -10,7 +10,7 @@ use Rattle.nr_trace.specs.declared.recordings.event.Event.{Event}
 use Rattle.nr_trace.specs.declared.recordings.event.Event.TheVariants as events
 use Rattle.nr_trace.specs.declared.recordings.event.Asked.{Asked}
 use Rattle.nr_trace.specs.declared.recordings.event.Asked.TheVariants as askeds
-use Rattle.nr_joined.specs.Run.{Run}
+use Rattle.nr_trace.specs.Run.{Run}
 use Rattle.nr_touch.specs.Beside.{beside, is_beside, meets_update, touched, touched_in}
 use Rattle.nr_touch.specs.Excuses.{AreExcusedBy}
 use Rattle.nr_touch.proofs.Overs.{count_same}

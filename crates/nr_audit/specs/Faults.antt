@@ -4,7 +4,7 @@ use Rattle.nr_trace.specs.Recording.{Recording}
 use Rattle.nr_trace.specs.Faults.{Earlier, HasFaultFrom}
 use Rattle.nr_trace.specs.declared.refusals.fault.Fault.{Fault}
 use Rattle.nr_trace.specs.declared.refusals.fault.Fault.TheVariants.{StartMissing, StartShared, StartReserved, StartStray, StartBeyond, StartDiffers, Stale, Reachable}
-use Rattle.nr_joined.specs.Run.{Run}
+use Rattle.nr_trace.specs.Run.{Run}
 use Rattle.nr_audit.specs.Start.{begins_in, space_before, HasStartFault}
 use Rattle.nr_audit.specs.Releases.{IsWrongAt}
 use Rattle.nr_audit.specs.Touches.{HasRightTouches, IsStale}

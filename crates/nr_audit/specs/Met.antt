@@ -6,7 +6,7 @@ use Rattle.vs_types.specs.Space.{Space}
 use Rattle.nr_trace.specs.Recording.{Recording}
 use Rattle.nr_trace.specs.Calls.{call_of}
 use Rattle.nr_trace.specs.Orders.{below}
-use Rattle.nr_joined.specs.Run.{Run}
+use Rattle.nr_trace.specs.Run.{Run}
 use Rattle.nr_touch.specs.Beside.{beside}
 use Rattle.nr_touch.specs.Excuses.{AreExcusedBy}
 use Rattle.nr_touch.specs.declared.touches.excuse.Excuse.{Excuse}

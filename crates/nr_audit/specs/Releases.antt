@@ -5,7 +5,7 @@ use Rattle.vs_types.specs.declared.requests.answer.Answer.TheVariants.{Done}
 use Rattle.vs_types.specs.declared.addresses.page.Page.{Page}
 use Rattle.nr_trace.specs.Recording.{Recording}
 use Rattle.nr_trace.specs.Calls.{released_of, Response, reply_of}
-use Rattle.nr_joined.specs.Run.{Run, end_of}
+use Rattle.nr_trace.specs.Run.{Run, end_of}
 use Rattle.nr_touch.specs.Releases.{IsWrongRelease}
 use Rattle.nr_touch.specs.Tails.{Lingers}
 use Rattle.nr_touch.specs.inside.Reached.{IsSamePlace}

@@ -7,7 +7,7 @@ use Rattle.nr_trace.specs.Recording.{Recording}
 use Rattle.nr_trace.specs.Calls.{IsWellFormedHistory}
 use Rattle.nr_trace.specs.Orders.{space_from, HasItsCalls, KeepsPrecedence, HasAnswersFrom}
 use Rattle.nr_audit.specs.Headline.{HasDumpsFrom}
-use Rattle.nr_joined.specs.Run.{Run, end_of, run_with}
+use Rattle.nr_trace.specs.Run.{Run, end_of, run_with}
 use Rattle.nr_touch.specs.Tails.{IsSoundTail, IsTailOfRun}
 use Rattle.nr_audit.specs.Start.{begins_in}
 use Rattle.nr_audit.specs.Releases.{HasRightReleases}

@@ -6,7 +6,7 @@ use Rattle.nr_trace.specs.Recording.{Recording}
 use Rattle.nr_trace.specs.Calls.{call_of, touch_of, Response, reply_in, reply_of}
 use Rattle.nr_trace.specs.declared.recordings.event.Asked.TheVariants as askeds
 use Rattle.nr_trace.specs.Orders.{known_by}
-use Rattle.nr_joined.specs.Run.{Run}
+use Rattle.nr_trace.specs.Run.{Run}
 use Rattle.nr_touch.specs.Touches.{IsRightBehind}
 use Rattle.nr_touch.specs.declared.touches.touch.Touch.{Touch}
 

@@ -10,7 +10,7 @@ use Rattle.nr_trace.specs.declared.refusals.fault.Format.TheVariants.{Truncated}
 use Rattle.nr_trace.specs.declared.formats.version.Form.TheVariants as forms
 use Rattle.nr_trace.specs.declared.refusals.fault.Fault.{Fault}
 use Rattle.nr_chain.specs.Bytes.{layout_before, EndsWith}
-use Rattle.nr_joined.specs.Run.{Run}
+use Rattle.nr_trace.specs.Run.{Run}
 use Rattle.nr_audit.specs.Segments.{FitsLayout}
 use Rattle.nr_chain.specs.Fed.{ChainFed, IsKeptOf, Kept}
 use Rattle.nr_chain.specs.Verdict.{IsSpaceAfter}

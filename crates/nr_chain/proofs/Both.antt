@@ -14,16 +14,16 @@ use Rattle.nr_trace.specs.Orders.{before, updates, space_from, answer_in, HasIts
 use Rattle.nr_trace.proofs.LawsOfLists.{In, Contains-from_in, in_from_Contains, in_left, in_right}
 use Rattle.nr_trace.proofs.LawsOfLists.{in_either, in_filter, in_filtered, distinct_append, in_mapped}
 use Rattle.nr_trace.proofs.LawsOfCalls.{call_within, is_some_from, ordered_from_request, ordered_is_call}
-use Rattle.nr_joined.specs.Joined.{dump_behind, calls_behind, joined_traces}
+use Rattle.nr_trace.specs.Joined.{dump_behind, calls_behind, joined_traces}
 use Rattle.nr_chain.specs.Joined.{Segment, both}
 use Rattle.nr_chain.specs.Run.{IsRightFrom, HasFittingDumpsFrom, space_behind}
-use Rattle.nr_joined.proofs.Lists.{not_in_behind, in_behind, behind_distinct, before_left, before_right, before_behind, before_in, split_at, of_mapped}
-use Rattle.nr_joined.proofs.Parts.{call_left, call_right, request_left, request_right, reply_behind}
-use Rattle.nr_joined.proofs.Parts.{reply_to_left, reply_to_right, HasEarlierCalls, answered_left, answered_right}
-use Rattle.nr_joined.proofs.Places.{is_ordered_left, is_ordered_from_left, is_ordered_right, is_ordered_from_right, is_read_left}
-use Rattle.nr_joined.proofs.Parts.{is_call_left, is_call_right, is_update_left, is_update_from_left, is_update_right}
-use Rattle.nr_joined.proofs.Parts.{is_update_from_right, is_read_right, is_answered_left, is_answered_from_left, is_answered_right, is_answered_from_right}
-use Rattle.nr_joined.proofs.Orders.{AreOf, updates_both, space_left, space_both, space_of_updates, taken_both}
+use Rattle.nr_trace.proofs.Lists.{not_in_behind, in_behind, behind_distinct, before_left, before_right, before_behind, before_in, split_at, of_mapped}
+use Rattle.nr_trace.proofs.Parts.{call_left, call_right, request_left, request_right, reply_behind}
+use Rattle.nr_trace.proofs.Parts.{reply_to_left, reply_to_right, HasEarlierCalls, answered_left, answered_right}
+use Rattle.nr_trace.proofs.Places.{is_ordered_left, is_ordered_from_left, is_ordered_right, is_ordered_from_right, is_read_left}
+use Rattle.nr_trace.proofs.Parts.{is_call_left, is_call_right, is_update_left, is_update_from_left, is_update_right}
+use Rattle.nr_trace.proofs.Parts.{is_update_from_right, is_read_right, is_answered_left, is_answered_from_left, is_answered_right, is_answered_from_right}
+use Rattle.nr_trace.proofs.Orders.{AreOf, updates_both, space_left, space_both, space_of_updates, taken_both}
 use Rattle.nr_chain.proofs.History.{earlier_calls, history_both}
 
 module _ (start : Space) (first second : Segment) (same_layout : second.trace.layout ≡ first.trace.layout) (is_before : IsRightFrom start first) where

@@ -10,11 +10,11 @@ use Rattle.vs_types.specs.declared.addresses.page.Page.{Page}
 use Rattle.nr_trace.specs.Recording.{Recording}
 use Rattle.nr_trace.specs.Orders.{space_from}
 use Rattle.nr_trace.specs.Laws.{IsFaultlessFrom}
-use Rattle.nr_joined.specs.Joined.{joined_traces}
-use Rattle.nr_joined.specs.Run.{Run, end_of, IsOrderly}
-use Rattle.nr_joined.proofs.Lengths.{many_events, many_places}
-use Rattle.nr_joined.proofs.Associated.{joined_associate}
-use Rattle.nr_joined.proofs.Orderly.{clean_is_orderly, orderly_both, space_of_both}
+use Rattle.nr_trace.specs.Joined.{joined_traces}
+use Rattle.nr_trace.specs.Run.{Run, end_of, IsOrderly}
+use Rattle.nr_trace.proofs.Lengths.{many_events, many_places}
+use Rattle.nr_trace.proofs.Associated.{joined_associate}
+use Rattle.nr_trace.proofs.Orderly.{clean_is_orderly, orderly_both, space_of_both}
 use Rattle.nr_touch.specs.Releases.{IsReachable, IsWrongRelease}
 use Rattle.nr_touch.specs.Tails.{Lingers}
 use Rattle.nr_touch.specs.Touches.{touch_behind, IsAnsweredInTime, IsRightTouch}

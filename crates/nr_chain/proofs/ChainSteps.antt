@@ -2,7 +2,7 @@
 use Rattle.std.proofs.Common.{◌≡◌, ℕ, List, [], ◌∷◌, ◌++◌, take, drop, append_assoc, Option, Some, None, sym, ap, ◌∙◌, subst}
 use Rattle.std.proofs.lemmas.List.{append-nil, take-append-drop}
 use Rattle.nr_trace.specs.declared.refusals.fault.Fault.{Fault}
-use Rattle.nr_joined.specs.Run.{Run}
+use Rattle.nr_trace.specs.Run.{Run}
 use Rattle.nr_audit.specs.Segments.{run_after}
 use Rattle.nr_audit.specs.declared.histories.met.Met.{Met}
 use Rattle.nr_chain.specs.Fed.{ChainFed, IsKeptOf}

@@ -3,9 +3,9 @@ use Rattle.std.proofs.Common.{◌≡◌, ℕ, ◌+◌, ◌<◌, ◌⊎◌, inl, 
 use Rattle.nr_trace.specs.Recording.{Recording}
 use Rattle.nr_trace.specs.Calls.{Invocation, call_of, IsCall, reply_to, IsAnswered, Answers, Precedes, IsWellFormedHistory}
 use Rattle.nr_trace.proofs.LawsOfCalls.{answers_from, is_some_from, reply_below, reply_event, the_some}
-use Rattle.nr_joined.specs.Joined.{joined_traces}
-use Rattle.nr_joined.proofs.Lists.{split_at}
-use Rattle.nr_joined.proofs.Parts.{call_left, call_right, answers_to_left, answers_to_right}
+use Rattle.nr_trace.specs.Joined.{joined_traces}
+use Rattle.nr_trace.proofs.Lists.{split_at}
+use Rattle.nr_trace.proofs.Parts.{call_left, call_right, answers_to_left, answers_to_right}
 use Rattle.nr_chain.proofs.History.{history_both, history_from}
 
 -- an answered call is answered by some event

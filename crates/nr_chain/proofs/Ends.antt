@@ -5,7 +5,7 @@ use Rattle.nr_trace.specs.declared.refusals.fault.Format.TheVariants.{Truncated}
 use Rattle.nr_trace.specs.declared.refusals.refusal.TraceUnit.TheVariants as units
 use Rattle.nr_trace.specs.declared.formats.version.Form.{Form}
 use Rattle.nr_trace.specs.declared.refusals.fault.Fault.{Fault}
-use Rattle.nr_joined.specs.Run.{Run}
+use Rattle.nr_trace.specs.Run.{Run}
 use Rattle.nr_chain.specs.Bytes.{EndsWith, IsFirstNext}
 
 -- no bytes are too few

@@ -10,7 +10,7 @@ use Rattle.nr_trace.specs.declared.formats.version.Form.TheVariants as forms
 use Rattle.nr_trace.proofs.LawsOfFormat.{no_fault_of_segment, one_fault}
 use Rattle.nr_audit.specs.Faults.{IsFirstAfter, IsSoundAfter}
 use Rattle.nr_trace.specs.declared.refusals.fault.Fault.{Fault}
-use Rattle.nr_joined.specs.Run.{Run}
+use Rattle.nr_trace.specs.Run.{Run}
 use Rattle.nr_audit.specs.Segments.{run_after}
 use Rattle.nr_chain.specs.Bytes.{layout_before, BeginsWith, EndsWith, HasFirstNext, IsFirstNext, GoesOnSo}
 use Rattle.nr_chain.proofs.OneChain.{begins_some, one_front}

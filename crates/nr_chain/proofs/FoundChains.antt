@@ -7,8 +7,8 @@ use Rattle.vs_types.specs.Space.{Space, IsSpace}
 use Rattle.nr_trace.specs.Recording.{Recording}
 use Rattle.nr_trace.specs.Calls.{IsWellFormedHistory}
 use Rattle.nr_trace.proofs.LawsOfHistories.{history_if_faultless}
-use Rattle.nr_joined.specs.Run.{Run, end_of, IsOrderly}
-use Rattle.nr_joined.proofs.Orderly.{clean_is_orderly, orderly_both, space_of_both}
+use Rattle.nr_trace.specs.Run.{Run, end_of, IsOrderly}
+use Rattle.nr_trace.proofs.Orderly.{clean_is_orderly, orderly_both, space_of_both}
 use Rattle.nr_touch.proofs.StaysSpace.{stays_space}
 use Rattle.nr_audit.specs.Segments.{run_after}
 use Rattle.nr_audit.specs.Start.{begins_in, first_space}

@@ -2,11 +2,11 @@
 use Rattle.std.proofs.Common.{◌≡◌, ℕ, ◌+◌, ◌<◌, ◌⊎◌, inl, inr, length, Some, ap, sym, ◌∙◌, subst, arith}
 use Rattle.nr_trace.specs.Recording.{Recording}
 use Rattle.nr_trace.specs.Calls.{Invocation, call_of, IsCall, Response, reply_of, Answers, IsWellFormedHistory}
-use Rattle.nr_joined.specs.Joined.{joined_traces}
+use Rattle.nr_trace.specs.Joined.{joined_traces}
 use Rattle.nr_chain.specs.Run.{IsHistory}
-use Rattle.nr_joined.proofs.Lists.{split_at}
-use Rattle.nr_joined.proofs.Parts.{call_left, call_right, reply_left, reply_from_right, HasEarlierCalls, answered_left, answered_right}
-use Rattle.nr_joined.proofs.Parts.{is_call_from_left, is_call_from_right}
+use Rattle.nr_trace.proofs.Lists.{split_at}
+use Rattle.nr_trace.proofs.Parts.{call_left, call_right, reply_left, reply_from_right, HasEarlierCalls, answered_left, answered_right}
+use Rattle.nr_trace.proofs.Parts.{is_call_from_left, is_call_from_right}
 
 pub earlier_calls : (trace : Recording) → IsHistory trace → HasEarlierCalls trace
 earlier_calls trace history index reply is = (history.of_calls index reply is).0

@@ -12,7 +12,7 @@ use Rattle.nr_trace.specs.declared.refusals.fault.Format.{Format}
 use Rattle.nr_trace.specs.declared.refusals.fault.Format.TheVariants.{Truncated}
 use Rattle.nr_trace.specs.declared.refusals.fault.Fault.TheVariants as faults
 use Rattle.nr_trace.specs.declared.refusals.fault.Fault.{Fault}
-use Rattle.nr_joined.specs.Run.{Run}
+use Rattle.nr_trace.specs.Run.{Run}
 use Rattle.nr_chain.specs.Fed.{ChainFed, IsKeptOf}
 use Rattle.nr_chain.specs.Bytes.{layout_before, HasFirstNext, IsFirstNext}
 use Rattle.nr_chain.specs.Verdict.{EndsWithin, FeedsChain, LastsNext}

@@ -6,7 +6,7 @@ use Rattle.vs_walk.specs.Dump.{Image}
 use Rattle.nr_trace.specs.Recording.{Recording}
 use Rattle.nr_trace.specs.declared.recordings.event.Event.{Event}
 use Rattle.nr_trace.specs.declared.recordings.event.Event.TheVariants.{Reply}
-use Rattle.nr_joined.specs.Joined.{event_behind, dump_behind, calls_behind, joined_traces}
+use Rattle.nr_trace.specs.Joined.{event_behind, dump_behind, calls_behind, joined_traces}
 use Rattle.nr_chain.specs.Joined.{Segment, both, joined}
 use Rattle.nr_chain.specs.Run.{HasFittingDumpsFrom, IsRightFrom, IsRightRun, space_behind}
 use Rattle.nr_chain.proofs.Recorded.{events_of_both}

@@ -16,10 +16,10 @@ use Rattle.nr_trace.specs.Laws.{HasCleanLog}
 use Rattle.nr_trace.proofs.LawsOfLists.{In, in_below, flat_map_next}
 use Rattle.nr_trace.proofs.LawsOfCalls.{answered_stands, reply_behind_call}
 use Rattle.nr_trace.proofs.LawsOfOrder.{saw, block, in_reads_at}
-use Rattle.nr_joined.specs.Joined.{event_behind, calls_behind, joined_traces}
-use Rattle.nr_joined.proofs.Lists.{filter_same, filter-map, none_kept, below_behind, flat_map_same, flat_map-map, nil_if_none}
-use Rattle.nr_joined.proofs.Lists.{to_list_of_mapped}
-use Rattle.nr_joined.proofs.Parts.{address_left, address_right, reply_behind, HasEarlierCalls, reply_to_left, reply_to_right}
+use Rattle.nr_trace.specs.Joined.{event_behind, calls_behind, joined_traces}
+use Rattle.nr_trace.proofs.Lists.{filter_same, filter-map, none_kept, below_behind, flat_map_same, flat_map-map, nil_if_none}
+use Rattle.nr_trace.proofs.Lists.{to_list_of_mapped}
+use Rattle.nr_trace.proofs.Parts.{address_left, address_right, reply_behind, HasEarlierCalls, reply_to_left, reply_to_right}
 
 -- ---- the reads that saw so many entries
 

@@ -7,7 +7,7 @@ use Rattle.vs_walk.specs.Dump.{Image}
 use Rattle.nr_trace.specs.Recording.{IsRecording, Recording}
 use Rattle.nr_trace.specs.Laws.{IsFaultlessFrom}
 use Rattle.nr_audit.specs.Start.{start_space, BeginsRight}
-use Rattle.nr_joined.specs.Run.{Run, end_of, IsOrderly}
+use Rattle.nr_trace.specs.Run.{Run, end_of, IsOrderly}
 use Rattle.nr_touch.specs.Touches.{IsRightTouch}
 use Rattle.nr_touch.proofs.cuts.Behind.{right_rest}
 use Rattle.nr_audit.specs.Faults.{IsSoundAfter}

@@ -5,7 +5,7 @@ use Rattle.vs_types.specs.Space.{Space, IsSpace}
 use Rattle.vs_types.specs.declared.addresses.depth.Depth.{Depth}
 use Rattle.vs_walk.specs.Dump.{Image}
 use Rattle.nr_trace.specs.Recording.{Recording, IsRecording}
-use Rattle.nr_joined.specs.Run.{Run, end_of}
+use Rattle.nr_trace.specs.Run.{Run, end_of}
 use Rattle.nr_audit.specs.Faults.{IsSoundAfter}
 use Rattle.nr_audit.proofs.StartSpaces.{first_translates}
 use Rattle.nr_chain.specs.Headline.{GoesOnIn}

@@ -10,14 +10,14 @@ use Rattle.vs_types.specs.declared.addresses.page.Page.{Page}
 use Rattle.vs_types.proofs.Lists.{item_of}
 use Rattle.nr_trace.specs.Recording.{Recording}
 use Rattle.nr_trace.specs.Calls.{Answers}
-use Rattle.nr_joined.specs.Joined.{joined_traces}
-use Rattle.nr_joined.specs.Run.{IsOrderly}
-use Rattle.nr_joined.proofs.Parts.{answered_right, answers_left, answers_to_left}
-use Rattle.nr_joined.proofs.Places.{placed_in, placed_left, placed_right}
+use Rattle.nr_trace.specs.Joined.{joined_traces}
+use Rattle.nr_trace.specs.Run.{IsOrderly}
+use Rattle.nr_trace.proofs.Parts.{answered_right, answers_left, answers_to_left}
+use Rattle.nr_trace.proofs.Places.{placed_in, placed_left, placed_right}
 use Rattle.nr_touch.specs.Touches.{page_after, ChangesLook, IsAllowedPrefix, IsAnsweredAt, IsAnsweredBefore, IsAnsweredInTime, IsLagging, IsMadeAfter}
 use Rattle.nr_touch.specs.Touches.{Ends, EndsLook, IsRightTouch}
 use Rattle.nr_touch.specs.declared.touches.touch.Touch.{Touch}
-use Rattle.nr_joined.proofs.Lengths.{many_places}
+use Rattle.nr_trace.proofs.Lengths.{many_places}
 use Rattle.nr_touch.proofs.NextChanges.{same_within}
 use Rattle.nr_touch.proofs.cuts.Behind.{changes_front, front, look_front, EndsBelow, Foresees}
 

@@ -9,8 +9,8 @@ use Rattle.vs_types.specs.Space.{Space}
 use Rattle.nr_trace.specs.Recording.{Recording}
 use Rattle.nr_trace.proofs.LawsOfLists.{In}
 use Rattle.nr_trace.proofs.LawsOfPrecedence.{in_taken}
-use Rattle.nr_joined.specs.Joined.{calls_behind, joined_traces}
-use Rattle.nr_joined.specs.Run.{Run, end_of, IsOrderly}
+use Rattle.nr_trace.specs.Joined.{calls_behind, joined_traces}
+use Rattle.nr_trace.specs.Run.{Run, end_of, IsOrderly}
 use Rattle.nr_touch.specs.Releases.{IsReachable, IsWrongRelease}
 use Rattle.nr_touch.specs.Touches.{touch_behind, IsAnsweredInTime, IsRightTouch}
 use Rattle.nr_touch.specs.declared.releases.release.Release.{Release}

@@ -1,7 +1,7 @@
 -- What a reader of a chain has come to.
 use Rattle.std.specs.Prelude.{◌≡◌, ℕ, List, Option, None, Some, ⊤}
 use Rattle.vs_types.specs.Config.{Layout}
-use Rattle.nr_joined.specs.Run.{Run}
+use Rattle.nr_trace.specs.Run.{Run}
 use Rattle.nr_audit.specs.Segments.{IsKept}
 use Rattle.nr_audit.specs.declared.histories.past.Past.{Past}
 

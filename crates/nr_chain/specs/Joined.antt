@@ -1,7 +1,7 @@
 -- Runs that were recorded one after the other, as one run with an order of its calls.
 use Rattle.std.specs.Prelude.{ℕ, List, [], ◌∷◌, ◌++◌, length}
 use Rattle.nr_trace.specs.Recording.{Recording}
-use Rattle.nr_joined.specs.Joined.{calls_behind, joined_traces}
+use Rattle.nr_trace.specs.Joined.{calls_behind, joined_traces}
 
 -- a run that is recorded, and an order of its calls
 pub record Segment : Type 0 where

@@ -4,8 +4,8 @@ use Rattle.nr_trace.specs.Recording.{Recording}
 use Rattle.nr_audit.specs.Start.{start_space}
 use Rattle.nr_audit.specs.Releases.{HasRelease, IsSettled}
 use Rattle.nr_touch.specs.declared.releases.release.Release.{Release}
-use Rattle.nr_joined.specs.Joined.{joined_traces}
-use Rattle.nr_joined.specs.Run.{Run, end_of}
+use Rattle.nr_trace.specs.Joined.{joined_traces}
+use Rattle.nr_trace.specs.Run.{Run, end_of}
 use Rattle.nr_audit.specs.Segments.{run_after}
 use Rattle.nr_chain.specs.Bytes.{layout_before, BeginsWith, SpellAll}
 

@@ -3,7 +3,7 @@
 ghost use Rattle.std.specs.Prelude.{◌≡◌, ◌++◌, ℕ, List, Option, None, IfSome};
 ghost use Rattle.nr_trace.specs.declared.refusals.fault.Fault.{Fault};
 ghost use Rattle.nr_chain.specs.Bytes.{GoesOnSo};
-ghost use Rattle.nr_joined.specs.Run.{Run, IsOrderly};
+ghost use Rattle.nr_trace.specs.Run.{Run, IsOrderly};
 ghost use Rattle.nr_chain.specs.Headline.{IsRightChain};
 ghost use Rattle.nr_chain.specs.Parts.{run_behind, ComesTo, MayFollow};
 

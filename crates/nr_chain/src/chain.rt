@@ -7,7 +7,7 @@ ghost use Rattle.vs_types.specs.Refusal.{IfRefused};
 ghost use Rattle.nr_audit.specs.Faults.{IsFirstAfter, IsSoundAfter};
 ghost use Rattle.nr_audit.specs.Met.{HasMet};
 ghost use Rattle.nr_audit.specs.Start.{begins_in};
-ghost use Rattle.nr_joined.specs.Run.{Run};
+ghost use Rattle.nr_trace.specs.Run.{Run};
 ghost use Rattle.nr_audit.specs.Segments.{run_after, FitsPast, IsBehind, IsKept};
 ghost use Rattle.nr_chain.specs.Bytes.{EndsWith};
 ghost use Rattle.nr_chain.specs.Fed.{IsKeptOf};

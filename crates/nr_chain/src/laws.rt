@@ -7,7 +7,7 @@ ghost use Rattle.nr_trace.specs.Calls.{IsAnswered, IsCall, IsWellFormedHistory};
 ghost use Rattle.nr_trace.specs.Laws.{HasCleanLog};
 ghost use Rattle.nr_trace.specs.Orders.{recorded_order};
 ghost use Rattle.nr_trace.specs.Recording.{Recording};
-ghost use Rattle.nr_joined.specs.Joined.{calls_behind, joined_traces};
+ghost use Rattle.nr_trace.specs.Joined.{calls_behind, joined_traces};
 ghost use Rattle.nr_chain.specs.Joined.{joined, Segment};
 ghost use Rattle.nr_chain.specs.Run.{AreFaultlessFrom, AreRightFrom, IsHistory, IsRightRun};
 ghost use Rattle.nr_chain.specs.Run.{space_behind, space_behind_all};

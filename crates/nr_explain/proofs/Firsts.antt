@@ -13,7 +13,7 @@ use Rattle.nr_trace.specs.declared.refusals.fault.Fault.TheVariants.{WrongAnswer
 use Rattle.nr_trace.specs.declared.refusals.fault.Fault.TheVariants.{Differs}
 use Rattle.nr_trace.proofs.LawsOfFaults.{IsBelow, below_from_less, earlier_parts, earlier_pass, number_of, pass}
 use Rattle.nr_audit.specs.Start.{first_space, space_before, HasStartFault, BeginsRight}
-use Rattle.nr_joined.specs.Run.{Run}
+use Rattle.nr_trace.specs.Run.{Run}
 use Rattle.nr_touch.specs.Tails.{GoesOn}
 use Rattle.nr_audit.specs.Faults.{HasFaultAfter, IsFirstAfter}
 use Rattle.nr_trace.specs.declared.refusals.fault.Fault.TheVariants.{StartMissing, StartShared, StartReserved, StartStray, StartBeyond, StartDiffers, Stale, Reachable}

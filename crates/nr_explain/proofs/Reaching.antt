@@ -19,8 +19,8 @@ use Rattle.nr_trace.specs.declared.recordings.event.Asked.{Asked}
 use Rattle.nr_trace.specs.declared.recordings.event.Asked.TheVariants as askeds
 use Rattle.nr_trace.specs.Laws.{HasCleanLog}
 use Rattle.nr_trace.specs.Orders.{space_from}
-use Rattle.nr_joined.specs.Joined.{joined_traces}
-use Rattle.nr_joined.specs.Run.{end_of}
+use Rattle.nr_trace.specs.Joined.{joined_traces}
+use Rattle.nr_trace.specs.Run.{end_of}
 use Rattle.nr_touch.specs.Looks.{IsLookLeft}
 use Rattle.nr_touch.specs.Releases.{IsReachable, IsReachedFrom}
 use Rattle.nr_touch.specs.Tails.{GoesOn, IsTailOf, Lingers}

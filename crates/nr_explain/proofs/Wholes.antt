@@ -13,8 +13,8 @@ use Rattle.nr_trace.specs.Feed.Fed.{Taken}
 use Rattle.nr_trace.specs.Versions.{Follows}
 use Rattle.nr_trace.specs.declared.formats.version.Form.TheVariants as forms
 use Rattle.nr_trace.specs.declared.refusals.fault.Fault.{Fault}
-use Rattle.nr_joined.specs.Run.{end_of, IsOrderly}
-use Rattle.nr_joined.proofs.Orderly.{space_of_both}
+use Rattle.nr_trace.specs.Run.{end_of, IsOrderly}
+use Rattle.nr_trace.proofs.Orderly.{space_of_both}
 use Rattle.nr_touch.specs.Tails.{AreSound, GoesOn, HasIndexes}
 use Rattle.nr_audit.specs.declared.histories.met.Met.{Met}
 use Rattle.nr_audit.specs.Verdict.{space_of}

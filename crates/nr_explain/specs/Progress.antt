@@ -9,7 +9,7 @@ use Rattle.nr_trace.specs.Orders.{recorded_order}
 use Rattle.nr_trace.specs.declared.recordings.event.Event.{Event}
 use Rattle.nr_trace.specs.declared.recordings.event.Event.TheVariants.{Call}
 use Rattle.nr_trace.specs.declared.recordings.event.Asked.TheVariants as askeds
-use Rattle.nr_joined.specs.Run.{Run, end_of}
+use Rattle.nr_trace.specs.Run.{Run, end_of}
 use Rattle.nr_touch.specs.Tails.{IsTailOfRun}
 use Rattle.nr_touch.specs.declared.touches.tail.Tail.{Tail}
 use Rattle.nr_audit.specs.Segments.{run_after}

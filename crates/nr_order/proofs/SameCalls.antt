@@ -13,7 +13,7 @@ use Rattle.nr_trace.specs.Orders.{updates, operations, space_from}
 use Rattle.nr_trace.specs.declared.recordings.event.Event.{Event}
 use Rattle.nr_trace.specs.declared.recordings.event.Event.TheVariants.{Reply}
 use Rattle.nr_trace.proofs.LawsOfCalls.{answers_from, reply_that_answers}
-use Rattle.nr_joined.proofs.Lists.{filter_same, filter_map_same, filter_map-map, of_mapped, some_of_mapped, mapped_some}
+use Rattle.nr_trace.proofs.Lists.{filter_same, filter_map_same, filter_map-map, of_mapped, some_of_mapped, mapped_some}
 use Rattle.nr_order.specs.WithOrder.{placed_by, updates_before, with_order}
 
 module _ (trace : Recording) (order : List ℕ) where

@@ -11,7 +11,7 @@ use Rattle.std.proofs.lemmas.Grind.{flat_map-append}
 use Rattle.vs_types.specs.Config.{Layout}
 use Rattle.vs_types.specs.declared.log_entry.LogEntry.{LogEntry}
 use Rattle.nr_trace.specs.Spelling.{SpellsSegment}
-use Rattle.nr_joined.specs.Run.{Run}
+use Rattle.nr_trace.specs.Run.{Run}
 use Rattle.nr_audit.specs.Segments.{run_after}
 use Rattle.nr_chain.specs.Bytes.{layout_before, BeginsWith, GoesOnSo}
 use Rattle.nr_chain.specs.Fed.{IsKeptOf}

@@ -7,8 +7,8 @@ use Rattle.std.proofs.lemmas.List.{get_or_append_left, get_or_push, length_push}
 use Rattle.std.proofs.lemmas.Option.{get_or_from_slice_get, slice_get_within, slice_get-get_or}
 use Rattle.vs_types.specs.Space.{Space}
 use Rattle.nr_trace.specs.Recording.{Recording}
-use Rattle.nr_joined.specs.Joined.{joined_traces}
-use Rattle.nr_joined.specs.Run.{Run}
+use Rattle.nr_trace.specs.Joined.{joined_traces}
+use Rattle.nr_trace.specs.Run.{Run}
 use Rattle.nr_touch.specs.Excuses.{IsAnsweredAsNow, IsExcusedBehind, IsExcusedBy, IsNewestPrefix, IsUpToDate}
 use Rattle.nr_touch.specs.Stale.{AreRightBelow, FindsStale}
 use Rattle.nr_touch.specs.Touches.{touch_behind, ChangesLook, IsAnsweredInTime, IsMadeAfter, IsRightBehind, IsRightTouch}

@@ -5,7 +5,7 @@ use Rattle.std.proofs.lemmas.Option.{slice_get_within, slice_get-get_or}
 use Rattle.vs_types.specs.Space.{Space}
 use Rattle.std.proofs.lemmas.Bool.Decides.{not_from_Decides}
 use Rattle.nr_trace.specs.Recording.{Recording}
-use Rattle.nr_joined.specs.Run.{Run}
+use Rattle.nr_trace.specs.Run.{Run}
 use Rattle.nr_touch.specs.Releases.{FindsReachable, IsWrongRelease, NoneWrongBelow}
 use Rattle.nr_touch.specs.inside.Joined.{Behind}
 use Rattle.nr_touch.specs.inside.Reached.{LeadsSo, SomeLeadsSo}

@@ -3,8 +3,8 @@ use Rattle.std.specs.Prelude.{◌≡◌, ℕ, ◌<◌, ◌≤◌, ◌⊎◌, Lis
 use Rattle.vs_types.specs.Space.{Space}
 use Rattle.vs_types.specs.declared.requests.answer.Answer.TheVariants as answers
 use Rattle.nr_trace.specs.Recording.{Recording}
-use Rattle.nr_joined.specs.Joined.{joined_traces}
-use Rattle.nr_joined.specs.Run.{Run}
+use Rattle.nr_trace.specs.Joined.{joined_traces}
+use Rattle.nr_trace.specs.Run.{Run}
 use Rattle.nr_touch.specs.Touches.{touch_behind, ChangesLook, IsAllowedPrefix, IsAnsweredAt, IsAnsweredBefore, IsAnsweredInTime, IsFaultOfLagging, IsMadeAfter}
 use Rattle.nr_touch.specs.declared.touches.excuse.Excuse.{Excuse}
 use Rattle.nr_touch.specs.declared.touches.excuse.Excuse.TheVariants as excuses

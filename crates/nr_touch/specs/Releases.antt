@@ -4,7 +4,7 @@ use Rattle.vs_types.specs.Page.{bytes_of}
 use Rattle.vs_types.specs.Space.{Space}
 use Rattle.vs_types.specs.declared.requests.answer.Answer.TheVariants.{Allowed}
 use Rattle.nr_trace.specs.Recording.{IsMemory, Recording}
-use Rattle.nr_joined.specs.Run.{Run}
+use Rattle.nr_trace.specs.Run.{Run}
 use Rattle.nr_touch.specs.Touches.{IsRightBehind}
 use Rattle.nr_touch.specs.declared.releases.release.Release.{Release}
 use Rattle.nr_touch.specs.declared.touches.touch.Touch.{Touch}

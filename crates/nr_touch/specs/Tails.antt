@@ -6,7 +6,7 @@ use Rattle.vs_types.specs.Space.{Space}
 use Rattle.vs_types.specs.declared.addresses.page.Page.{Page}
 use Rattle.nr_trace.specs.Recording.{Recording}
 use Rattle.nr_trace.specs.Calls.{Answers}
-use Rattle.nr_joined.specs.Run.{Run, end_of, IsOrderly}
+use Rattle.nr_trace.specs.Run.{Run, end_of, IsOrderly}
 use Rattle.nr_touch.specs.Touches.{page_after, ChangesLook, EndsLook}
 use Rattle.nr_touch.specs.inside.Changes.{page_before}
 use Rattle.nr_touch.specs.inside.Indexed.{HasPages}

@@ -10,8 +10,8 @@ use Rattle.nr_trace.specs.Recording.{Recording}
 use Rattle.nr_trace.specs.Calls.{Answers}
 use Rattle.nr_trace.specs.Faults.{HasPlaced}
 use Rattle.nr_trace.specs.Orders.{space_from, floor}
-use Rattle.nr_joined.specs.Joined.{joined_traces}
-use Rattle.nr_joined.specs.Run.{Run}
+use Rattle.nr_trace.specs.Joined.{joined_traces}
+use Rattle.nr_trace.specs.Run.{Run}
 use Rattle.nr_touch.specs.declared.touches.touch.Touch.{Touch}
 
 -- the page that covers an address after the first entries of the log, this many

@@ -42,3 +42,10 @@ pub mod Framed
 pub mod Feeding
 pub mod FeedingSegments
 pub mod Runs
+pub mod Lengths
+pub mod Lists
+pub mod Parts
+pub mod Orders
+pub mod Places
+pub mod Orderly
+pub mod Associated

@@ -10,6 +10,8 @@ pub mod Faults
 pub mod Laws
 pub mod Examples
 pub mod inside
+pub mod Joined
+pub mod Run
 pub use Rattle.vs_types.specs.Config
 pub use Rattle.vs_types.specs.Depth
 pub use Rattle.vs_types.specs.Frame

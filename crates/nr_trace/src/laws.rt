@@ -18,7 +18,9 @@ ghost use Rattle.nr_trace.specs.Feed.Fed.{Taken};
 ghost use Rattle.nr_trace.specs.Faults.{Earlier, HasFault, HasFaultFrom, IsFirstFrom, IsFirstOf, StandsAfter};
 ghost use Rattle.nr_trace.specs.Laws.{HasCleanLog, HasRank, IsFaultlessFrom, IsSerialFrom, Stands};
 ghost use Rattle.nr_trace.specs.Orders.{before, floor, known_by, recorded_order, space_from, updates, FitsFrom, IsLegalFrom};
+ghost use Rattle.nr_trace.specs.Joined.{joined_traces};
 ghost use Rattle.nr_trace.specs.Recording.{IsThere, Recording};
+ghost use Rattle.nr_trace.specs.Run.{IsOrderly};
 ghost use Rattle.nr_trace.specs.Spelling.{Spells, SpellsSegment};
 ghost use Rattle.nr_trace.specs.declared.refusals.fault.Fault.{Fault};
 ghost use Rattle.nr_trace.specs.declared.refusals.fault.Fault.TheVariants.{AnsweredTwice, Early, NoSuchCall, ThreadOpen, WrongAnswer};
@@ -228,4 +230,24 @@ pub fn bytes_begin_with_a_segment_or_have_a_fault()
         → ((front : List ℕ) × (more : List ℕ) × (segment : Recording) × (bytes ≡ front ++ more)
         × SpellsSegment before front segment) ⊎
         ((fault : Format) × HasSegmentFault before bytes fault) }
+{}
+
+/// A recording of which none of faults 2 to 8 holds is orderly; and so are two that are, as one.
+pub fn recordings_are_orderly()
+    ensures clean { (trace : Recording) → HasCleanLog trace → IsOrderly trace }
+    ensures both { (first second : Recording) → IsOrderly first → IsOrderly second
+        → IsOrderly (joined_traces first second) }
+{}
+
+/// The space after two recordings, as one, is that after the second from the space after the first.
+pub fn spaces_go_on()
+    ensures { (start : Space) (first second : Recording) → second.layout ≡ first.layout
+        → IsOrderly first → space_from start (joined_traces first second) (joined_traces first second).log
+        ≡ space_from (space_from start first first.log) second second.log }
+{}
+
+/// Three recordings, one after the other, are one however they are taken together.
+pub fn recordings_associate()
+    ensures { (first second third : Recording) → joined_traces (joined_traces first second) third
+        ≡ joined_traces first (joined_traces second third) }
 {}

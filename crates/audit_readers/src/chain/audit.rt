@@ -3,7 +3,7 @@
 ghost use Rattle.std.specs.Prelude.{◌≡◌, ◌≢◌, ◌+◌, ◌<◌, ◌^◌, ◌-◌, ◌⊎◌, IfErr, IfOk, OnOk, Option, length, unwrap_or};
 ghost use Rattle.std.specs.Io.KnownBytes.{Appends};
 ghost use Rattle.nr_audit.specs.Met.{no_totals};
-ghost use Rattle.nr_joined.specs.Run.{Run};
+ghost use Rattle.nr_trace.specs.Run.{Run};
 ghost use Rattle.nr_chain.specs.Fed.{IsKeptOf};
 ghost use Rattle.audit_readers.specs.Answers.{WritesReport};
 ghost use Rattle.audit_readers.specs.Ends.{RefusesUnreadable};

@@ -8,7 +8,7 @@ ghost use Rattle.nr_trace.specs.Feed.{EndsSegment, FedSegment};
 ghost use Rattle.nr_trace.specs.Feed.Fed.{Taken};
 ghost use Rattle.nr_trace.specs.Recording.{IsRecording, Recording};
 ghost use Rattle.nr_trace.specs.declared.refusals.fault.Format.{Format};
-ghost use Rattle.nr_joined.specs.Run.{Run};
+ghost use Rattle.nr_trace.specs.Run.{Run};
 ghost use Rattle.nr_chain.specs.Fed.{IsKeptOf};
 ghost use Rattle.nr_audit.specs.Faults.{IsFirstAfter, IsSoundAfter};
 ghost use Rattle.nr_audit.specs.Start.{first_space};

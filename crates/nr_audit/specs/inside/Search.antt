@@ -5,7 +5,7 @@ use Rattle.nr_trace.specs.Recording.{Recording}
 use Rattle.nr_trace.specs.Faults.{HasFaultFrom, Earlier}
 use Rattle.nr_trace.specs.declared.refusals.fault.Fault.{Fault}
 use Rattle.nr_trace.specs.declared.refusals.fault.Fault.TheVariants.{Early, Stale, Reachable}
-use Rattle.nr_joined.specs.Run.{Run}
+use Rattle.nr_trace.specs.Run.{Run}
 use Rattle.nr_audit.specs.Releases.{IsWrongAt}
 use Rattle.nr_audit.specs.Touches.{IsStale}
 use Rattle.nr_audit.specs.inside.Passes.{IsFloorFault, IsFloorFaultAt}

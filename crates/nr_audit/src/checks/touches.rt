@@ -3,7 +3,7 @@
 ghost use Rattle.std.specs.Prelude.{◌≡◌, ◌↔◌, ◌+◌, ◌^◌, ◌<◌, [], false, IfNone, IfOk, IfSome, IsTrue, OnOk, length};
 ghost use Rattle.std.specs.Prelude.{is_some, option_and_then, option_map, slice_get, Option, Some};
 ghost use Rattle.nr_trace.specs.Laws.{HasCleanLog};
-ghost use Rattle.nr_joined.specs.Run.{Run, run_with};
+ghost use Rattle.nr_trace.specs.Run.{Run, run_with};
 ghost use Rattle.nr_touch.specs.Tails.{GoesOn, IsSoundTail, IsTailOf, KeepsChanges};
 ghost use Rattle.nr_audit.specs.Verdict.{space_of};
 ghost use Rattle.nr_audit.specs.Releases.{HasRightReleases};

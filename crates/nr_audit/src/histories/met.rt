@@ -4,7 +4,7 @@ ghost use Rattle.std.specs.Prelude.{◌≡◌, ◌↔◌, false, count_by, is_so
 ghost use Rattle.std.specs.BTreeMap.{get};
 ghost use Rattle.std.specs.Option.{option_map_or};
 ghost use Rattle.vs_types.specs.Space.{Space};
-ghost use Rattle.nr_joined.specs.Run.{Run};
+ghost use Rattle.nr_trace.specs.Run.{Run};
 ghost use Rattle.nr_touch.specs.Beside.{beside};
 ghost use Rattle.nr_touch.specs.Excuses.{AreExcusedBy};
 ghost use Rattle.nr_touch.specs.inside.Indexed.{row_cmp};

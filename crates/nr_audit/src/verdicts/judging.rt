@@ -14,7 +14,7 @@ ghost use Rattle.nr_audit.specs.Faults.{IsFirstAfter, IsSoundAfter};
 ghost use Rattle.nr_audit.specs.Headline.{AreRightWith, HasFittingDumps, IsSpelledWith, SpellsAlone};
 ghost use Rattle.nr_audit.specs.Met.{HasMet};
 ghost use Rattle.nr_audit.specs.Start.{begins_in};
-ghost use Rattle.nr_joined.specs.Run.{Run};
+ghost use Rattle.nr_trace.specs.Run.{Run};
 ghost use Rattle.nr_touch.specs.Tails.{IsSoundTail, IsTailOf, KeepsChanges};
 ghost use Rattle.nr_audit.specs.Segments.{run_after, FitsPast, IsBehind, IsKept, IsRightAfter};
 ghost use Rattle.nr_audit.specs.Verdict.{IfYes, IsVerdictOf, IsVerdictOn};

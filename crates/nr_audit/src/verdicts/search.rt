@@ -3,7 +3,7 @@
 ghost use Rattle.std.specs.Prelude.{◌≡◌, is_some, IfOk, IfErr, IfSome, OnOk, Option, Some};
 ghost use Rattle.vs_types.specs.Refusal.{IfRefused};
 ghost use Rattle.nr_trace.specs.Orders.{recorded_order, space_from};
-ghost use Rattle.nr_joined.specs.Run.{Run, run_with};
+ghost use Rattle.nr_trace.specs.Run.{Run, run_with};
 ghost use Rattle.nr_touch.specs.Tails.{GoesOn, IsSoundTail, IsTailOf, KeepsChanges};
 ghost use Rattle.nr_audit.specs.Met.{HasMet};
 ghost use Rattle.nr_audit.specs.Touches.{HasRightTouches};

@@ -8,7 +8,7 @@ use Rattle.nr_trace.specs.Spelling.{SpellsSegment}
 use Rattle.nr_trace.specs.declared.refusals.fault.Format.{Format}
 use Rattle.nr_trace.specs.declared.refusals.fault.Fault.TheVariants as faults
 use Rattle.nr_audit.specs.Faults.{IsFirstAfter, IsSoundAfter}
-use Rattle.nr_joined.specs.Run.{Run}
+use Rattle.nr_trace.specs.Run.{Run}
 use Rattle.nr_audit.specs.Met.{HasMet}
 use Rattle.nr_audit.specs.Segments.{run_after}
 use Rattle.nr_audit.specs.Start.{begins_in}

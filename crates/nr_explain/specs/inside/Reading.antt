@@ -9,7 +9,7 @@ use Rattle.nr_trace.specs.declared.refusals.fault.Format.TheVariants.{Truncated}
 use Rattle.nr_trace.specs.declared.formats.version.Form.TheVariants as forms
 use Rattle.nr_audit.specs.Start.{first_space, start_space, BeginsRight}
 use Rattle.nr_audit.specs.declared.histories.past.Past.{Past}
-use Rattle.nr_joined.specs.Run.{Run, end_of}
+use Rattle.nr_trace.specs.Run.{Run, end_of}
 use Rattle.nr_touch.specs.Tails.{AreSound, IsSoundTail, IsTailOfRun}
 use Rattle.nr_touch.specs.declared.touches.tail.Left.{Left}
 use Rattle.nr_touch.specs.declared.touches.tail.Tail.{Tail}

@@ -12,14 +12,14 @@ use Rattle.nr_trace.specs.Calls.{Answers}
 use Rattle.nr_trace.specs.Orders.{space_from}
 use Rattle.nr_trace.proofs.LawsOfLists.{In}
 use Rattle.nr_trace.proofs.LawsOfCalls.{answers_within}
-use Rattle.nr_joined.specs.Joined.{calls_behind, joined_traces}
-use Rattle.nr_joined.specs.Run.{IsOrderly}
-use Rattle.nr_joined.proofs.Lengths.{many_events, many_places}
-use Rattle.nr_joined.proofs.Lists.{split_at, take_behind}
-use Rattle.nr_joined.proofs.Orderly.{own_calls}
-use Rattle.nr_joined.proofs.Orders.{space_left, space_both}
-use Rattle.nr_joined.proofs.Parts.{answered_left, answered_right, answers_to_left, answers_to_right}
-use Rattle.nr_joined.proofs.Places.{placed_in, placed_in_right, placed_left, placed_right}
+use Rattle.nr_trace.specs.Joined.{calls_behind, joined_traces}
+use Rattle.nr_trace.specs.Run.{IsOrderly}
+use Rattle.nr_trace.proofs.Lengths.{many_events, many_places}
+use Rattle.nr_trace.proofs.Lists.{split_at, take_behind}
+use Rattle.nr_trace.proofs.Orderly.{own_calls}
+use Rattle.nr_trace.proofs.Orders.{space_left, space_both}
+use Rattle.nr_trace.proofs.Parts.{answered_left, answered_right, answers_to_left, answers_to_right}
+use Rattle.nr_trace.proofs.Places.{placed_in, placed_in_right, placed_left, placed_right}
 use Rattle.nr_touch.specs.inside.Earlier.{EndsNowhere}
 use Rattle.nr_touch.specs.Tails.{AreOpenFrom, IsNeverAnswered, Lingers}
 use Rattle.nr_touch.specs.Touches.{page_after, touch_behind, ChangesLook, Ends, EndsLook, IsAllowedPrefix, IsAnsweredAt, IsAnsweredBefore, IsAnsweredInTime}

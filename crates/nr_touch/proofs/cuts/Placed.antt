@@ -13,7 +13,7 @@ use Rattle.vs_types.specs.declared.addresses.page.Page.{Page}
 use Rattle.vs_types.proofs.Lists.{get_left, get_right, not_in_nil, Contains-cases, Contains-head, Contains-tail}
 use Rattle.nr_trace.specs.Recording.{Recording}
 use Rattle.nr_trace.proofs.LawsOfCalls.{answers_within}
-use Rattle.nr_joined.proofs.Lists.{split_at}
+use Rattle.nr_trace.proofs.Lists.{split_at}
 use Rattle.nr_touch.specs.Tails.{ends_look, HasNoEnd, IsLeft, IsNeverAnswered, IsSoundLeft, Lingers}
 use Rattle.nr_touch.specs.Touches.{page_after, EndsLook, IsAnsweredBefore}
 use Rattle.nr_touch.specs.inside.Changes.{ended_at, page_before, AreChanges}

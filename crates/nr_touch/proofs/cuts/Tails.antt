@@ -11,8 +11,8 @@ use Rattle.vs_types.proofs.Lists.{not_in_nil}
 use Rattle.nr_trace.specs.Recording.{Recording}
 use Rattle.nr_trace.specs.Calls.{Answers}
 use Rattle.nr_trace.specs.Orders.{space_from}
-use Rattle.nr_joined.specs.Run.{Run, run_with, IsOrderly}
-use Rattle.nr_joined.proofs.Orderly.{orderly_both, space_of_both}
+use Rattle.nr_trace.specs.Run.{Run, run_with, IsOrderly}
+use Rattle.nr_trace.proofs.Orderly.{orderly_both, space_of_both}
 use Rattle.nr_touch.specs.Tails.{GoesOn, HasIndexes, IsLeft, IsNeverAnswered, IsTailOf, Lingers}
 use Rattle.nr_touch.specs.Touches.{page_after, ChangesLook, EndsLook, IsRightBehind, IsRightTouch}
 use Rattle.nr_touch.specs.inside.Changes.{ended_at, page_before, AreChanges}

@@ -4,7 +4,7 @@ use Rattle.vs_types.specs.Space.{Space}
 use Rattle.vs_types.specs.Step.{allow_in_page}
 use Rattle.vs_types.specs.declared.addresses.page.Page.{Page}
 use Rattle.nr_trace.specs.Recording.{Recording}
-use Rattle.nr_joined.specs.Run.{Run, IsOrderly}
+use Rattle.nr_trace.specs.Run.{Run, IsOrderly}
 use Rattle.nr_touch.specs.Touches.{EndsLook, IsAnsweredBefore}
 use Rattle.nr_touch.specs.Tails.{Lingers}
 use Rattle.nr_touch.specs.inside.Changes.{ended_at, page_before}

@@ -2,7 +2,7 @@
 use Rattle.std.specs.Prelude.{◌≡◌, ◌⊎◌, ℕ, List, length, slice_get, Option, Some}
 use Rattle.vs_types.specs.Space.{Space}
 use Rattle.nr_trace.specs.Recording.{Recording}
-use Rattle.nr_joined.specs.Run.{Run}
+use Rattle.nr_trace.specs.Run.{Run}
 use Rattle.nr_touch.specs.Excuses.{IsAnsweredAsNow, IsAnsweredUpToDate, IsExcusedBehind, IsFault}
 use Rattle.nr_touch.specs.Touches.{IsAnsweredInTime, IsFaultOfLagging}
 use Rattle.nr_touch.specs.declared.touches.excuse.Excuse.{Excuse}

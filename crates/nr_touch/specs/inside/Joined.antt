@@ -3,7 +3,7 @@ use Rattle.std.specs.Prelude.{◌≡◌, length, Option}
 use Rattle.vs_types.specs.Space.{Space, IsSpace}
 use Rattle.nr_trace.specs.Orders.{space_from}
 use Rattle.nr_trace.specs.Recording.{Recording}
-use Rattle.nr_joined.specs.Run.{Run}
+use Rattle.nr_trace.specs.Run.{Run}
 use Rattle.nr_touch.specs.Tails.{GoesOn}
 use Rattle.nr_touch.specs.inside.Changes.{AreChanges}
 use Rattle.nr_touch.specs.inside.Columns.{AreColumns}

@@ -4,7 +4,7 @@ ghost use Rattle.std.specs.Prelude.{◌≡◌, ℕ, ◌↔◌, ◌<◌, length, 
 ghost use Rattle.vs_types.specs.Space.{Space, pages};
 ghost use Rattle.nr_trace.specs.Laws.{HasCleanLog};
 ghost use Rattle.nr_trace.specs.Recording.{IsMemory};
-ghost use Rattle.nr_joined.specs.Run.{Run};
+ghost use Rattle.nr_trace.specs.Run.{Run};
 ghost use Rattle.vs_types.specs.declared.addresses.page.Page.{Page as PageRow};
 ghost use Rattle.nr_touch.specs.Releases.{AreMemory, FindsReachable, FindsReached, IsWrongRelease};
 ghost use Rattle.nr_touch.specs.Tails.{GoesOn, AreSound, IsLeft, IsTailOf};

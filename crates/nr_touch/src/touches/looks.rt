@@ -2,7 +2,7 @@
 
 ghost use Rattle.std.specs.Prelude.{◌≡◌, ◌↔◌, ◌∷◌, ◌++◌, ◌≤◌, ℕ, drop, length, reverse, take, IfOk, IfSome, IsTrue, [], List, None, Option};
 ghost use Rattle.vs_types.specs.Page.{covers};
-ghost use Rattle.nr_joined.specs.Run.{Run, end_of};
+ghost use Rattle.nr_trace.specs.Run.{Run, end_of};
 ghost use Rattle.nr_touch.specs.Looks.{is_ended, looks_left, AreLooksLeft};
 ghost use Rattle.nr_touch.specs.Tails.{AreSound, HasIndexes, IsSoundLeft, IsTailOf, IsTailOfRun, KeepsChanges};
 ghost use Rattle.nr_touch.specs.inside.Changes.{page_before};

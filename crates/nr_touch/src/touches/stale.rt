@@ -4,7 +4,7 @@ ghost use Rattle.std.specs.Prelude.{◌≡◌, ◌↔◌, ◌<◌, ◌≤◌, �
 ghost use Rattle.vs_types.specs.Space.{Space, page_at};
 ghost use Rattle.vs_types.specs.Step.{look, allow, allow_in_page};
 ghost use Rattle.nr_trace.specs.Laws.{HasCleanLog};
-ghost use Rattle.nr_joined.specs.Run.{Run, run_with};
+ghost use Rattle.nr_trace.specs.Run.{Run, run_with};
 ghost use Rattle.nr_touch.specs.Touches.{IsAnsweredInTime, IsFaultOfLagging, IsFaultOfNone};
 ghost use Rattle.vs_types.specs.declared.addresses.page.Page.{Page as PageRow};
 ghost use Rattle.nr_touch.specs.Beside.{beside};

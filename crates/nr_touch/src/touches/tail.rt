@@ -3,7 +3,7 @@
 ghost use Rattle.std.specs.Prelude.{◌≡◌, ◌↔◌, ◌+◌, ◌<◌, ◌≤◌, ◌^◌, ◌++◌, ◌∷◌, ◌⊎◌, ◌||◌, if◌then◌else◌, map, drop, length, take, true, false, [], List, None, Contains};
 ghost use Rattle.std.specs.Prelude.{IfOk, IsTrue, OnOk, Option};
 ghost use Rattle.std.specs.List.Sorted.{IsNonDecreasingBy};
-ghost use Rattle.nr_joined.specs.Run.{Run};
+ghost use Rattle.nr_trace.specs.Run.{Run};
 ghost use Rattle.nr_touch.specs.Tails.{ends_look, AreSound, IsSoundLeft, IsSoundTail, IsTailOf, KeepsAll, KeepsChanges};
 ghost use Rattle.nr_touch.specs.declared.changes.change.PlacedChange.{PlacedChange};
 ghost use Rattle.nr_touch.specs.inside.Changes.{number_of, page_before};

@@ -1,5 +1,5 @@
 use Rattle.std.proofs.Common.{length, Option}
-use Rattle.nr_joined.specs.Run.{Run}
+use Rattle.nr_trace.specs.Run.{Run}
 use Rattle.nr_chain.specs.Fed.{IsKeptOf}
 use Rattle.audit_readers.specs.inside.Going.{IsShort, IsUnderWay}
 use Rattle.audit_readers.proofs.chain.audit.take_block.Given as goal

@@ -2,7 +2,7 @@ use Rattle.std.proofs.Common.{IfSome, Some, List, length, slice_get, option_map,
 use Rattle.vs_types.specs.Space.{IsSpace}
 use Rattle.vs_types.specs.declared.addresses.depth.Depth.{Depth}
 use Rattle.vs_plain.specs.Plain.{BoundedSpace}
-use Rattle.nr_joined.specs.Run.{run_with}
+use Rattle.nr_trace.specs.Run.{run_with}
 use Rattle.nr_touch.specs.Releases.{AreMemory}
 use Rattle.nr_touch.specs.declared.releases.release.Release.{Release}
 use Rattle.nr_touch.specs.declared.touches.touch.Touch.{Touch}

@@ -4,7 +4,7 @@ use Rattle.vs_types.specs.Refusal.{IfRefused}
 use Rattle.vs_types.specs.Space.{Space}
 use Rattle.vs_plain.specs.Plain.{BoundedSpace}
 use Rattle.nr_trace.specs.Orders.{recorded_order, space_from}
-use Rattle.nr_joined.specs.Run.{Run, run_with}
+use Rattle.nr_trace.specs.Run.{Run, run_with}
 use Rattle.nr_touch.specs.Tails.{IsSoundTail, IsTailOf, KeepsChanges}
 use Rattle.nr_touch.specs.declared.touches.tail.Tail.{Tail}
 use Rattle.nr_audit.specs.Faults.{IsFirstAfter, IsSoundAfter}

@@ -4,11 +4,11 @@ use Rattle.std.proofs.lemmas.List.Sorted.{Contains-permutation}
 use Rattle.vs_types.specs.Space.{Space, Holds}
 use Rattle.nr_trace.specs.Orders.{space_from}
 use Rattle.nr_trace.specs.Recording.{Recording}
-use Rattle.nr_joined.specs.Run.{Run}
+use Rattle.nr_trace.specs.Run.{Run}
 use Rattle.vs_types.specs.declared.addresses.page.Page.{Page}
 use Rattle.vs_plain.specs.Plain.{BoundedSpace}
 use Rattle.vs_types.specs.declared.addresses.depth.Depth.{Depth}
-use Rattle.nr_joined.proofs.Orderly.{clean_is_orderly}
+use Rattle.nr_trace.proofs.Orderly.{clean_is_orderly}
 use Rattle.nr_touch.specs.declared.changes.change.Change.{Change}
 use Rattle.nr_touch.specs.declared.changes.change.PlacedChange.{PlacedChange}
 use Rattle.nr_touch.specs.inside.Changes.{AreChanges}

@@ -1,5 +1,5 @@
 use Rattle.std.proofs.Common.{ℕ, Option, Some, None}
-use Rattle.nr_joined.specs.Run.{Run}
+use Rattle.nr_trace.specs.Run.{Run}
 use Rattle.nr_touch.specs.Tails.{IsTailOf}
 use Rattle.nr_touch.specs.declared.touches.tail.Tail.{Tail}
 use Rattle.nr_touch.proofs.touches.tail.Tail.unchanged.Goals as goal

@@ -2,7 +2,7 @@
 use Rattle.std.proofs.Common.{◌≡◌, ℕ, ◌+◌, length, map, ap, ◌∙◌}
 use Rattle.std.proofs.lemmas.List.{length-append, length-map}
 use Rattle.nr_trace.specs.Recording.{Recording}
-use Rattle.nr_joined.specs.Joined.{calls_behind, event_behind, joined_traces}
+use Rattle.nr_trace.specs.Joined.{calls_behind, event_behind, joined_traces}
 
 module _ (first second : Recording) where
   pub many_events : length (joined_traces first second).events ≡ length first.events + length second.events

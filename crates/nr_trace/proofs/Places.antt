@@ -15,11 +15,11 @@ use Rattle.nr_trace.specs.Orders.{known_by, floor}
 use Rattle.nr_trace.specs.Faults.{StandsAfter}
 use Rattle.nr_trace.proofs.LawsOfLists.{In, in_map}
 use Rattle.nr_trace.proofs.LawsOfPrecedence.{known_below_floor}
-use Rattle.nr_joined.specs.Joined.{calls_behind, joined_traces}
-use Rattle.nr_joined.proofs.Lists.{split_at, of_mapped}
-use Rattle.nr_joined.proofs.Parts.{operation_left, operation_right, address_left, address_right, touch_left, touch_right, reply_behind, HasEarlierCalls}
-use Rattle.nr_joined.proofs.Parts.{reply_to_left, reply_to_right}
-use Rattle.nr_joined.proofs.Parts.{is_update_left, is_update_from_left, is_update_right, is_update_from_right, is_read_right}
+use Rattle.nr_trace.specs.Joined.{calls_behind, joined_traces}
+use Rattle.nr_trace.proofs.Lists.{split_at, of_mapped}
+use Rattle.nr_trace.proofs.Parts.{operation_left, operation_right, address_left, address_right, touch_left, touch_right, reply_behind, HasEarlierCalls}
+use Rattle.nr_trace.proofs.Parts.{reply_to_left, reply_to_right}
+use Rattle.nr_trace.proofs.Parts.{is_update_left, is_update_from_left, is_update_right, is_update_from_right, is_read_right}
 
 pub is_read_left : (first second : Recording) (call : ℕ) → call < length first.events → IsRead (joined_traces first second) call → IsRead first call
 is_read_left first second call l h = subst IsSome (address_left first second call l) h

@@ -7,13 +7,13 @@ use Rattle.nr_trace.specs.Laws.{HasCleanLog}
 use Rattle.nr_trace.specs.Orders.{space_from}
 use Rattle.nr_trace.proofs.LawsOfCalls.{call_within, placed_is_update, reply_behind_call, update_is_call}
 use Rattle.nr_trace.proofs.LawsOfLists.{In}
-use Rattle.nr_joined.specs.Joined.{joined_traces}
-use Rattle.nr_joined.specs.Run.{IsOrderly}
-use Rattle.nr_joined.proofs.Lengths.{many_events}
-use Rattle.nr_joined.proofs.Lists.{split_at}
-use Rattle.nr_joined.proofs.Orders.{AreOf, space_both}
-use Rattle.nr_joined.proofs.Parts.{reply_left, reply_from_right}
-use Rattle.nr_joined.proofs.Places.{placed_in, PlacedRight}
+use Rattle.nr_trace.specs.Joined.{joined_traces}
+use Rattle.nr_trace.specs.Run.{IsOrderly}
+use Rattle.nr_trace.proofs.Lengths.{many_events}
+use Rattle.nr_trace.proofs.Lists.{split_at}
+use Rattle.nr_trace.proofs.Orders.{AreOf, space_both}
+use Rattle.nr_trace.proofs.Parts.{reply_left, reply_from_right}
+use Rattle.nr_trace.proofs.Places.{placed_in, PlacedRight}
 
 pub clean_is_orderly : (trace : Recording) → HasCleanLog trace → IsOrderly trace
 clean_is_orderly trace clean = record {

@@ -4,7 +4,7 @@ use Rattle.vs_types.specs.Space.{Space}
 use Rattle.nr_trace.specs.Recording.{Recording}
 use Rattle.nr_trace.specs.Calls.{Response, reply_of}
 use Rattle.nr_trace.specs.Orders.{space_from}
-use Rattle.nr_joined.specs.Joined.{joined_traces}
+use Rattle.nr_trace.specs.Joined.{joined_traces}
 
 -- the segments so far as one recording, and the space with which the first of them begins
 pub record Run : Type 0 where

@@ -1,5 +1,5 @@
-use Rattle.nr_joined.proofs.Orderly.{clean_is_orderly, orderly_both}
-use Rattle.nr_joined.proofs.laws.recordings_are_orderly.Goals as goal
+use Rattle.nr_trace.proofs.Orderly.{clean_is_orderly, orderly_both}
+use Rattle.nr_trace.proofs.laws.recordings_are_orderly.Goals as goal
 
 pub returns-clause-clean : goal.returns-clause-clean
 returns-clause-clean c = clean_is_orderly

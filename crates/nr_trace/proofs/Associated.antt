@@ -5,8 +5,8 @@ use Rattle.vs_walk.specs.Dump.{Image}
 use Rattle.nr_trace.specs.Recording.{Recording}
 use Rattle.nr_trace.specs.declared.recordings.event.Event.{Event}
 use Rattle.nr_trace.specs.declared.recordings.event.Event.TheVariants.{Reply}
-use Rattle.nr_joined.specs.Joined.{calls_behind, dump_behind, event_behind, joined_traces}
-use Rattle.nr_joined.proofs.Lengths.{many_events, many_places}
+use Rattle.nr_trace.specs.Joined.{calls_behind, dump_behind, event_behind, joined_traces}
+use Rattle.nr_trace.proofs.Lengths.{many_events, many_places}
 
 calls_twice : (m n : ℕ) (calls : List ℕ) → calls_behind (m + n) calls ≡ calls_behind m (calls_behind n calls)
 calls_twice m n [] = refl

@@ -10,9 +10,9 @@ use Rattle.nr_trace.specs.Recording.{Recording}
 use Rattle.nr_trace.specs.Calls.{operation_of}
 use Rattle.nr_trace.specs.Orders.{updates, operations, space_from}
 use Rattle.nr_trace.proofs.LawsOfLists.{In}
-use Rattle.nr_joined.specs.Joined.{calls_behind, joined_traces}
-use Rattle.nr_joined.proofs.Lists.{filter_same, filter-map, filter_map_same, given_of_mapped, given_of_kept, take_behind}
-use Rattle.nr_joined.proofs.Parts.{operation_left, operation_right}
+use Rattle.nr_trace.specs.Joined.{calls_behind, joined_traces}
+use Rattle.nr_trace.proofs.Lists.{filter_same, filter-map, filter_map_same, given_of_mapped, given_of_kept, take_behind}
+use Rattle.nr_trace.proofs.Parts.{operation_left, operation_right}
 
 -- all these calls are of the run
 abbrev pub AreOf : Recording → List ℕ → Type 0

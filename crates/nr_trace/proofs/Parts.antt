@@ -13,8 +13,8 @@ use Rattle.nr_trace.specs.Calls.{touch_of, IsCall, IsUpdate, IsRead, Response, r
 use Rattle.nr_trace.specs.declared.recordings.event.Event.{Event}
 use Rattle.nr_trace.specs.declared.recordings.event.Event.TheVariants.{Reply}
 use Rattle.nr_trace.proofs.LawsOfCalls.{answers_from, reply_below, reply_that_answers}
-use Rattle.nr_joined.specs.Joined.{event_behind, joined_traces}
-use Rattle.nr_joined.proofs.Lists.{split_at, of_mapped, some_of_mapped, mapped_some, filter_map-map, none_given, none_of_mapped}
+use Rattle.nr_trace.specs.Joined.{event_behind, joined_traces}
+use Rattle.nr_trace.proofs.Lists.{split_at, of_mapped, some_of_mapped, mapped_some, filter_map-map, none_given, none_of_mapped}
 
 -- ---- calls
 

@@ -10,7 +10,7 @@ use Rattle.std.proofs.lemmas.List.{append_assoc, append-nil, map-append}
 use Rattle.std.proofs.lemmas.Option.{none-some, same_Some}
 use Rattle.nr_trace.specs.Orders.{before, below}
 use Rattle.nr_trace.proofs.LawsOfLists.{In, absent_from, absent_not_in, before_here, before_there, in_map}
-use Rattle.nr_joined.specs.Joined.{calls_behind}
+use Rattle.nr_trace.specs.Joined.{calls_behind}
 
 -- ---- what is in a list
 
