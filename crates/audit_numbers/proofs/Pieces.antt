@@ -57,7 +57,8 @@ more_judged bytes piece orders old new here (is, short) = record {
 }
 
 -- so many bytes end a right segment
-right_judged : (bytes piece : List ℕ) (orders : List (List ℕ)) (old new : ChainFed) (count : ℕ) (order : List ℕ) (met : Option Met) (here : HasJudged bytes orders old)
+right_judged : (bytes piece : List ℕ) (orders : List (List ℕ)) (old new : ChainFed) (count : ℕ) (order : List ℕ) (met : Option Met)
+    (here : HasJudged bytes orders old)
     → FeedsChain here.run old piece (steps.Right count order met new) → HasJudged (bytes ++ take count piece) (orders ++ order ∷ []) new
 right_judged bytes piece orders old new count order met here (some, within, segment, spelled, sound, recorded, kept, none, counted) =
     let front : List ℕ = take count piece in
@@ -89,7 +90,8 @@ found_at_end bytes orders chain found here ends =
     (here.goes_on [] [] found (subst (λ (all : List ℕ). EndsWith here.run all found) (sym (append-nil chain.bytes)) ends)))
 
 -- behind a right segment the chain is right
-right_so_far : (bytes piece : List ℕ) (orders : List (List ℕ)) (old new : ChainFed) (count : ℕ) (order : List ℕ) (met : Option Met) (here : HasJudged bytes orders old)
+right_so_far : (bytes piece : List ℕ) (orders : List (List ℕ)) (old new : ChainFed) (count : ℕ) (order : List ℕ) (met : Option Met)
+    (here : HasJudged bytes orders old)
     → FeedsChain here.run old piece (steps.Right count order met new) → IsRightChain (bytes ++ take count piece) (orders ++ order ∷ [])
 right_so_far bytes piece orders old new count order met here (some, within, segment, spelled, sound, recorded, kept, none, counted) =
     let front : List ℕ = take count piece in

@@ -46,7 +46,8 @@ bar_explains places log count LogEnded bars = bars
 bar_explains places log count (Full tails) bars = bars
 bar_explains places log count (Moved tails) bars = absurd bars
 
-pub reason : (places : ℕ) (log : Log) (count : ℕ) (u w : View) (fault : AppendFault) → Explains places log count fault → HasMoved u w → IsReason places log count u w fault
+pub reason : (places : ℕ) (log : Log) (count : ℕ) (u w : View) (fault : AppendFault) → Explains places log count fault → HasMoved u w
+    → IsReason places log count u w fault
 reason places log count u w LogEnded why moved = why
 reason places log count u w (Full tails) why moved = why
 reason places log count u w (Moved tails) why moved = (why.0, why.1, why.2, moved)

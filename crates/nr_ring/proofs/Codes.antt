@@ -255,7 +255,8 @@ room_small : (tail local : ℕ) (b : Bool) → local ≤ 16106127360 → room_of
 room_small tail local true le = omega arith
 room_small tail local false le = omega arith
 
-rooms_small : (tail count first : ℕ) (locals : List ℕ) (k : ℕ) → All (λ local. local ≤ 16106127360) locals → get_or (rooms_of tail locals first count) k 0 ≤ 16106127376
+rooms_small : (tail count first : ℕ) (locals : List ℕ) (k : ℕ) → All (λ local. local ≤ 16106127360) locals
+    → get_or (rooms_of tail locals first count) k 0 ≤ 16106127376
 rooms_small tail count first locals k all = dite (dec_le (length locals) k)
     (λ high. let none = beyond (rooms_of tail locals first count) k (omega (arith, rooms_long tail locals first count, high)) in omega (arith, none))
     (λ low.
@@ -293,7 +294,8 @@ pub low_start : (tail count n : ℕ) (locals : List ℕ) → tail ≤ 1610612736
     → packed tail (rooms_of tail (take n locals) 0 count) < 2 ^ 54
 low_start tail count n locals low few all = low_codes tail count 0 (take n locals) low (omega (arith, few_taken n locals, few)) (all_taken n locals all)
 
-pub low_room : (tail count k : ℕ) (locals : List ℕ) → All (λ local. local ≤ 16106127360) locals → room_of tail (get_or locals k 0) (nat_le (k + 1) count) ≤ 16106127376
+pub low_room : (tail count k : ℕ) (locals : List ℕ) → All (λ local. local ≤ 16106127360) locals → room_of tail (get_or locals k 0)
+    (nat_le (k + 1) count) ≤ 16106127376
 low_room tail count k locals all = room_small tail (get_or locals k 0) (nat_le (k + 1) count) (item_small locals k all)
 
 -- one local tail more

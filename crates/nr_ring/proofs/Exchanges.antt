@@ -49,7 +49,8 @@ turns depth replicas passes places pass ring v (event ∷ events) x same below l
     (rest.0, subst (λ (vs : List View). IsKept depth replicas passes places (stored_after ring next events) vs) (set-set views pass w rest.0) rest.1, rest.2)
 
 -- it leaves each word that another pass counts on: a replica of its own needs that, which nobody else advances
-pub events_leave : (depth : Depth) (replicas passes places pass ring : ℕ) (v : View) (events : List LogEvent) (x : Stored) → LeadTo depth replicas places v events
+pub events_leave : (depth : Depth) (replicas passes places pass ring : ℕ) (v : View) (events : List LogEvent) (x : Stored)
+    → LeadTo depth replicas places v events
     → Leaves (IsKept depth replicas passes places) (Needs replicas) (Lasts replicas) pass v x (stored_after ring x events)
 events_leave depth replicas passes places pass ring v events x lead views kept at other w seen place word differ there lasts then now =
     let r = lasts.1.0 in
@@ -235,7 +236,8 @@ module _ (depth : Depth) (replicas passes places : ℕ) (own : Option ℕ) (mine
   -- ---- what it shows
 
   -- where the value found has come further than that of the pass, another pass's event has come
-  later_moved : (p q : CellPass View Stored) → Knows p → length p.value.history < length q.value.history → Looks depth replicas passes places q.value p.view q.view
+  later_moved : (p q : CellPass View Stored) → Knows p → length p.value.history < length q.value.history
+      → Looks depth replicas passes places q.value p.view q.view
       → HasMoved p.view q.view
   later_moved p q is more looks =
       let Has : List ℕ → Type 0 = λ l. Contains l (length p.view.seen) → ⊥ in (

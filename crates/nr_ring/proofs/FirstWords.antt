@@ -21,7 +21,8 @@ use Rattle.nr_ring.proofs.LocalTails.{greatest_least}
 abbrev pub Tells : ℕ → Stored → List ℕ → Type 0
 Tells replicas stored head = (place : ℕ) → place < 8 → slice_index head place ≡ word_in (code_in replicas stored) place
 
-module _ (depth : Depth) (replicas passes places : ℕ) (own : Option ℕ) (ring : ℕ) (p : CellPass View Stored) (is : Remembers depth replicas passes places own ring p) where
+module _ (depth : Depth) (replicas passes places : ℕ) (own : Option ℕ) (ring : ℕ) (p : CellPass View Stored)
+    (is : Remembers depth replicas passes places own ring p) where
   pub ring_low : (place : ℕ) → slice_index p.value.rings place < passes
   ring_low place = last_below passes p.value.rings (suc place) (omega (arith, is.ring_below)) is.rings_below
 

@@ -85,7 +85,8 @@ between replica whole middle seen all last first =
 sees : (depth : Depth) (replicas passes places pass : ℕ) (told other : View) (value x : Stored) (views : List View)
     → (kept : IsKept depth replicas passes places x views) → get_elem? views pass ≡ some (joint_view told other)
     → StartsWith x.history value.history → StartsWith value.history told.seen → StartsWith value.history other.seen → All (StartsWith told.seen) told.told
-    → IsLogHistory depth replicas value.history → length value.rings ≡ tail (log_after replicas value.history) → All (λ ring. ring < passes) value.rings → tail (log_after replicas value.history) ≤ places
+    → IsLogHistory depth replicas value.history → length value.rings ≡ tail (log_after replicas value.history)
+    → All (λ ring. ring < passes) value.rings → tail (log_after replicas value.history) ≤ places
     → (w : View) × IsKept depth replicas passes places x (slice_set views pass w) × Looks depth replicas passes places value (joint_view told other) w
 sees depth replicas passes places pass told other value x views kept at here mine its told_all is each below ends =
     let v : View = joint_view told other in
@@ -96,7 +97,8 @@ sees depth replicas passes places pass told other value x views kept at here min
     → HasSeenAdvances (slice_index_or v.owns k d) x.history seen × HasSeenAdvances (slice_index_or v.owns k d) seen told.seen =
     λ k d lt. between (slice_index_or v.owns k d) x.history seen told.seen (old.owns k d lt) here mine in (
       w,
-      seeing_kept depth replicas passes places pass v seen x views kept at (record { seen = here; told = old.told; owns = λ k d lt. (own k d lt).0; mine = old.mine }),
+      seeing_kept depth replicas passes places pass v seen x views kept at
+          (record { seen = here; told = old.told; owns = λ k d lt. (own k d lt).0; mine = old.mine }),
       record {
         looked = record {
           is_history = is;
@@ -166,7 +168,8 @@ module _ (depth : Depth) (replicas passes places : ℕ) where
   pub meeting_recalls : (pass : ℕ) (own its : Option ℕ) (mine theirs : ℕ) (told other : CellPass View Stored) (given : View) (value : Stored)
       → Remembers depth replicas passes places own mine told → Remembers depth replicas passes places its theirs other → given.seen ≡ other.view.seen
       → HaveComeFurther (code_in replicas) told.value other.value value
-      → Recalls (IsKept depth replicas passes places) pass (joint_view told.view given) value (λ before x found after. Looks depth replicas passes places found before after)
+      → Recalls (IsKept depth replicas passes places) pass (joint_view told.view given) value
+      (λ before x found after. Looks depth replicas passes places found before after)
   meeting_recalls pass own its mine theirs told other given value is they same further x views kept at =
       let old : IsTrueOf x.history (made_by_pass pass kept.makers) (joint_view told.view given) = kept.each_view pass (joint_view told.view given) at in
       let Now : List LogEvent → Type 0 = λ l. StartsWith x.history l in

@@ -84,7 +84,8 @@ gathered_is v w is =
 -- ---- the steps
 
 -- all that a pass owns is cut off
-pub owner_forks : (depth : Depth) (replicas passes places pass : ℕ) (v : View) → Forks (IsKept depth replicas passes places) pass v (left_view v [] v.rights) (owner_of v)
+pub owner_forks : (depth : Depth) (replicas passes places pass : ℕ) (v : View) → Forks (IsKept depth replicas passes places) pass v
+    (left_view v [] v.rights) (owner_of v)
 owner_forks depth replicas passes places pass v stored views is at =
     split_forks depth replicas passes places pass v [] v.owns v.rights 0
     (record { kept_of = λ r kept. absurd (omega (arith, kept.1)); given_of = λ r has. has; apart = λ r kept given. absurd (omega (arith, kept.1)) })

@@ -42,7 +42,8 @@ owner views pass other z j u replica there has =
 third : (depth : Depth) (replicas passes places : ℕ) (stored : Stored) (views : List View) (pass other : ℕ) (v w : View) (j replica : ℕ) (u : View)
     → IsKept depth replicas passes places stored views → get_elem? views pass ≡ some v → get_elem? views other ≡ some w
     → Contains v.owns replica ⊎ Contains w.owns replica → j ≢ pass → j ≢ other → get_elem? views j ≡ some u → Contains u.owns replica → ⊥
-third depth replicas passes places stored views pass other v w j replica u is at there (inl a) mine its here has = mine (is.one_owner j pass u v replica here at has a)
+third depth replicas passes places stored views pass other v w j replica u is at there (inl a) mine its here has = mine
+    (is.one_owner j pass u v replica here at has a)
 third depth replicas passes places stored views pass other v w j replica u is at there (inr a) mine its here has =
     its (is.one_owner j other u w replica here there has a)
 

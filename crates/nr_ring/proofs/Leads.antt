@@ -29,7 +29,8 @@ last_of_batch rings n ring some =
     ∙ get_or-append_right rings (replicate n ring) (length rings) (length rings + (n - 1)) 0 refl (omega arith)
     ∙ get_or-replicate n (length rings + (n - 1) - length rings) ring 0 (omega (arith, some))
 
-module _ (depth : Depth) (replicas passes places : ℕ) (own : Option ℕ) (mine : ℕ) (p : CellPass View Stored) (is : Remembers depth replicas passes places own mine p) where
+module _ (depth : Depth) (replicas passes places : ℕ) (own : Option ℕ) (mine : ℕ) (p : CellPass View Stored)
+    (is : Remembers depth replicas passes places own mine p) where
   count : length (log_after replicas p.view.seen).locals ≤ 4
   count = omega (arith, as_many_locals depth replicas p.view.seen is.is_history, is.few)
 

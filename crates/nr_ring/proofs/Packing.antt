@@ -65,7 +65,8 @@ packed_end number [] field = refl
 packed_end number (f ∷ fs) field = packed_end (number * 32 + f) fs field
 
 -- it is small where its fields are
-pub packed_low : (number : ℕ) (fields : List ℕ) → ((k : ℕ) → get_or fields k 0 ≤ 16106127376) → packed number fields + 536870912 ≤ (number + 536870912) * 32 ^ length fields
+pub packed_low : (number : ℕ) (fields : List ℕ) → ((k : ℕ) → get_or fields k 0 ≤ 16106127376) → packed number fields + 536870912 ≤
+    (number + 536870912) * 32 ^ length fields
 packed_low number [] low = omega arith
 packed_low number (f ∷ fs) low =
     let first : f ≤ 16106127376 = low 0 in
@@ -76,7 +77,8 @@ packed_low number (f ∷ fs) low =
     ap (λ (z : ℕ). (number + 536870912) * z) (pow-succ' 32 (length fs)) ∙ omega arith in
     omega (arith, rest, mul-le-mul_right p more, power)
 
-pub few_low : (number : ℕ) (fields : List ℕ) → number ≤ 16106127360 → length fields ≤ 4 → ((k : ℕ) → get_or fields k 0 ≤ 16106127376) → packed number fields < 2 ^ 54
+pub few_low : (number : ℕ) (fields : List ℕ) → number ≤ 16106127360 → length fields ≤ 4 → ((k : ℕ) → get_or fields k 0 ≤ 16106127376)
+    → packed number fields < 2 ^ 54
 few_low number fields le few low =
     let power : 32 ^ length fields ≤ 2 ^ 20 = pow-le-pow_right {n = 32} (omega arith) few in
     let all = packed_low number fields low in

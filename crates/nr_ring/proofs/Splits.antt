@@ -110,7 +110,8 @@ split_forks depth replicas passes places pass v kept given left right cut shares
           let R : ℕ → Type 0 = λ i. T i (offshoot v given right) in let Q : View → Type 0 = λ z. T j z in subst Q last.1 (subst R (sym (last.0 ∙ wide)) new))
           (at_end changed (offshoot v given right) u j there);
       one_owner = λ p q a b replica pa qb ha hb.
-          one_each depth replicas passes places stored views pass v kept given p q replica is at cut (owner views pass v kept given left right p a replica pa ha)
+          one_each depth replicas passes places stored views pass v kept given p q replica is at cut
+          (owner views pass v kept given left right p a replica pa ha)
           (owner views pass v kept given left right q b replica qb hb);
       all_rights = omega (
         arith,

@@ -105,7 +105,8 @@ all_seen_kept : (depth : Depth) (replicas passes places pass ring : ℕ) (v : Vi
     → IsKept depth replicas passes places (record { history = v.seen; rings = rings }) views → get_elem? views pass ≡ some v → ring < passes
     → MayFollow depth (log_after replicas v.seen) event → MayMake v event
     → tail (log_after_event (log_after replicas v.seen) event) ≤ places
-    → IsKept depth replicas passes places (record { history = v.seen ++ event ∷ []; rings = rings_after ring rings event }) (set views pass (with_event v event))
+    → IsKept depth replicas passes places (record { history = v.seen ++ event ∷ []; rings = rings_after ring rings event })
+    (set views pass (with_event v event))
 all_seen_kept depth replicas passes places pass ring v event rings views kept at below may own within =
     let w : View = with_event v event in
     let mine = kept.each_view pass v at in

@@ -62,7 +62,8 @@ head_refused parts unit rest refusal one_left whole none is =
     let here : length parts.dumps.items + 0 ≡ length parts.dumps.items = omega arith in
     subst (λ (r : Refusal). Ahead (Dumps parts) (unit ++ rest) (and_then rest r))
     (ap (λ (n : ℕ). refusal_at (units.DumpHead n) unit BadCount) here ∙ sym is)
-    (dump_refused parts.version (length parts.dumps.items + 0) (parts.layout.replicas - (length parts.dumps.items + 0)) unit rest (omega (arith, one_left)) whole
+    (dump_refused parts.version (length parts.dumps.items + 0) (parts.layout.replicas - (length parts.dumps.items + 0)) unit rest
+    (omega (arith, one_left)) whole
     (λ head fits e. none head (record { in_range = fits; spelled = e })))
 
 no_entries : finite.entries (finite.empty {X = List ℕ} {R = nat_cmp}) ≡ []

@@ -106,8 +106,11 @@ otherwise = (
 )
 
 pub no_trace : HasFormatFault map_then_touch_bytes BadMagic
-no_trace =
-    (units.Magic, length map_then_touch_bytes, inr (inl (lit≤ tt, refl, λ value fits e. let last : 83 ≡ 84 = ap (λ (bytes : List ℕ). get_or bytes 3 0) e in omega arith)))
+no_trace = (
+  units.Magic,
+  length map_then_touch_bytes,
+  inr (inl (lit≤ tt, refl, λ value fits e. let last : 83 ≡ 84 = ap (λ (bytes : List ℕ). get_or bytes 3 0) e in omega arith)),
+)
 
 pub within : HasFault map_then_touch (PastLog 3) → ⊥
 within (reply, is, (read, past)) = no_read (subst (IsRead map_then_touch) (ap (λ (r : Response). r.call) (sym (same_Some _ reply is))) read) where

@@ -218,7 +218,8 @@ taken_behind form bytes begun piece front behind unit reader state missing count
     (taken_after form bytes begun piece front behind unit reader state count form_is read is cut has)
 
 pub refused_behind : (form : Form) (bytes begun piece front behind unit : List ℕ) (reader : Reader) (fail : Fail Refusal) → form_of reader ≡ form
-    → said reader ≡ bytes ++ unit → unit ≡ begun ++ front → piece ≡ front ++ behind → IfRefused (IsRefusedAs (form_of reader) (said reader ++ behind) (length behind)) fail
+    → said reader ≡ bytes ++ unit → unit ≡ begun ++ front → piece ≡ front ++ behind
+    → IfRefused (IsRefusedAs (form_of reader) (said reader ++ behind) (length behind)) fail
     → IfRefused (IsRefusedAs form (bytes ++ begun ++ piece) (length (begun ++ piece))) fail
 refused_behind form bytes begun piece front behind unit reader fail form_is read is cut why =
     let all : said reader ++ behind ≡ bytes ++ begun ++ piece =

@@ -123,7 +123,8 @@ unfolding AtDumps
 dumps_or_fault version replica zero rest from = inl (no_unit (AllByRecursion (IsImage version)) dump (λ _. ⊤) rest tt tt)
 dumps_or_fault version replica (suc dumps) rest from =
     either_as (λ (head, behind, fits, is, has). one_dump version dumps head rest behind fits is has)
-    (at_unit 16 (units.DumpHead replica) (Some BadCount) (IsDumpHead version) dump_head (λ head. AtFrames (of_dump replica) 0 head.frames None (AtDumps version (replica + 1) dumps))
+    (at_unit 16 (units.DumpHead replica) (Some BadCount) (IsDumpHead version) dump_head (λ head. AtFrames (of_dump replica) 0 head.frames None
+    (AtDumps version (replica + 1) dumps))
     (λ head. HasUnits (FramesFit None) frame head.frames (HasDumps version dumps)) (λ e. absurd cc) (judged (head_told version))
     (λ head fits. frames_or_fault (of_dump replica) (λ index e. absurd cc) 0 head.frames None (AtDumps version (replica + 1) dumps) (HasDumps version dumps)
     (dumps_or_fault version (replica + 1) dumps)) rest from)
@@ -199,7 +200,8 @@ front_or_fault form bytes from =
     one_front form version numbers bytes middle behind rest of has.0 fits is_bytes is_middle is_behind has.1)
     (at_unit {A = Unit {0}} 4 units.Magic (Some BadMagic) (λ _. ⊤) (λ _. magic_of form) (λ _. BehindMagic form)
     (λ _. HasUnit (IsVersionOf form) version_word HasCounts) (λ e. absurd cc) (judged (magic_told form))
-    (λ _ _. at_unit 2 units.Version (Some BadVersion) (IsVersionOf form) version_word (BehindVersion form) HasCounts (λ e. absurd cc) (judged (version_told form))
+    (λ _ _. at_unit 2 units.Version (Some BadVersion) (IsVersionOf form) version_word (BehindVersion form) HasCounts (λ e. absurd cc)
+    (judged (version_told form))
     (λ version _. at_unit (counts_bytes version) (counts_unit version) (Some BadCount) (IsCounts version) (counts version) (BehindCounts form version)
     (λ numbers rest. Follows form numbers.layout × HasStart version numbers numbers.start rest)
     (λ e. absurd cc) (judged (counts_told version))
@@ -219,7 +221,8 @@ by_end bytes front (byte ∷ more) trace is spells =
 
 pub spelled_or_fault : (bytes : List ℕ) → AreBytes bytes → ((trace : Recording) × Spells bytes trace) ⊎ ((fault : Format) × HasFormatFault bytes fault)
 spelled_or_fault bytes all = by_trace (front_or_fault forms.Trace bytes (inl all)) where
-  by_trace : Either (HasFront forms.Trace) (HasRefusalAs forms.Trace) bytes → ((trace : Recording) × Spells bytes trace) ⊎ ((fault : Format) × HasFormatFault bytes fault)
+  by_trace : Either (HasFront forms.Trace) (HasRefusalAs forms.Trace) bytes → ((trace : Recording) × Spells bytes trace) ⊎
+      ((fault : Format) × HasFormatFault bytes fault)
   by_trace (inl (front, more, trace, is, spells)) = elim (by_end bytes front more trace is spells) [ inl whole ↦ inl whole | inr on ↦ inr (Trailing, on.1) ]
   by_trace (inr (refusal, another, h)) = inr (refusal.fault, (refusal.unit, refusal.left, h))
 

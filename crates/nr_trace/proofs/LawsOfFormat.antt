@@ -43,7 +43,8 @@ use Rattle.nr_trace.proofs.EventsApart.{events_apart}
 -- ---- one unit
 
 -- a unit whose spelling distinguishes values and has this length has one fault at most, if what comes after has
-pub unit_one : {A : Type 0} (bytes : ℕ) (named : TraceUnit) (own : Option Format) (Fits : A → Type 0) (spelled : A → List ℕ) (Behind : A → List ℕ → Refusal → Type 0)
+pub unit_one : {A : Type 0} (bytes : ℕ) (named : TraceUnit) (own : Option Format) (Fits : A → Type 0) (spelled : A → List ℕ) (Behind : A → List ℕ
+    → Refusal → Type 0)
     → ToldApart Fits spelled → ((a : A) → Fits a → length (spelled a) ≡ bytes)
     → ((a : A) (rest : List ℕ) (f g : Refusal) → Fits a → Behind a rest f → Behind a rest g → f ≡ g)
     → (rest : List ℕ) (f g : Refusal) → AtUnit bytes named own Fits spelled Behind rest f → AtUnit bytes named own Fits spelled Behind rest g → f ≡ g
@@ -76,7 +77,8 @@ unit_one bytes named own Fits spelled Behind apart long one rest f g (inr (inr (
     one v more f g fits behind (subst₂ (λ (a : _) (ys : List ℕ). Behind a ys g) r.0 r.1 further)
 
 -- a unit that spells a value that fits has no fault, if what comes after has none
-pub unit_none : {A : Type 0} (bytes : ℕ) (named : TraceUnit) (own : Option Format) (Fits : A → Type 0) (spelled : A → List ℕ) (Behind : A → List ℕ → Refusal → Type 0)
+pub unit_none : {A : Type 0} (bytes : ℕ) (named : TraceUnit) (own : Option Format) (Fits : A → Type 0) (spelled : A → List ℕ) (Behind : A → List ℕ
+    → Refusal → Type 0)
     → ToldApart Fits spelled → (v : A) (more : List ℕ) (fault : Refusal) → length (spelled v) ≡ bytes → Fits v
     → (Behind v more fault → ⊥) → (rest : List ℕ) → rest ≡ spelled v ++ more → AtUnit bytes named own Fits spelled Behind rest fault → ⊥
 unit_none bytes named own Fits spelled Behind apart v more fault long fits none rest is (inl x) =
@@ -117,7 +119,8 @@ dumps_one : (version : Version) (replica dumps : ℕ) → OneBehind (AtDumps ver
 unfolding AtDumps
 dumps_one version replica zero rest f g x y = end_one version rest f g x y
 dumps_one version replica (suc dumps) rest f g x y =
-    unit_one 16 (units.DumpHead replica) (Some BadCount) (IsDumpHead version) dump_head (λ head. AtFrames (of_dump replica) 0 head.frames None (AtDumps version (replica + 1) dumps))
+    unit_one 16 (units.DumpHead replica) (Some BadCount) (IsDumpHead version) dump_head (λ head. AtFrames (of_dump replica) 0 head.frames None
+    (AtDumps version (replica + 1) dumps))
     (heads_apart version) (λ head h. length-head head)
     (λ head rest f g h. frames_one (of_dump replica) 0 head.frames None (AtDumps version (replica + 1) dumps) (dumps_one version (replica + 1) dumps)
     rest f g) rest f g x y
@@ -126,7 +129,8 @@ events_one : (version : Version) (layout : Layout) (index events : ℕ) → IsWi
 unfolding AtEvents
 events_one version layout index zero l rest f g x y = dumps_one version 0 layout.replicas rest f g x y
 events_one version layout index (suc events) l rest f g x y =
-    unit_one 24 (units.Event index) (Some (BadEvent index)) (IsEvent version layout) event (λ _. AtEvents version layout (index + 1) events) (events_apart version layout l)
+    unit_one 24 (units.Event index) (Some (BadEvent index)) (IsEvent version layout) event (λ _. AtEvents version layout (index + 1) events)
+    (events_apart version layout l)
     (λ e h. length-event e)
     (λ e rest f g h. events_one version layout (index + 1) events l rest f g) rest f g x y
 
@@ -302,7 +306,8 @@ start_none (Some start) Behind more fault fit none rest is x =
       by_count : (n : ℕ) → finite.len start.frames ≡ n → 1 ≤ n → AtStart n Behind rest fault → ⊥
       by_count zero count some x = omega arith
       by_count (suc n) count some x =
-          unit_none 8 units.StartRoot None (λ root. root < 2 ^ 64) frame_number (λ _. AtFrames of_start 0 (suc n) None Behind) root_apart start.root (frames_of start ++ more)
+          unit_none 8 units.StartRoot None (λ root. root < 2 ^ 64) frame_number (λ _. AtFrames of_start 0 (suc n) None Behind) root_apart start.root
+          (frames_of start ++ more)
           fault refl fit.image.root
           (λ y. frames_none of_start 0 (finite.entries start.frames) None Behind more fault (image_frames_fit Segment start fit.image)
           (rising_from_none (finite.entries start.frames) (finite.entries_sorted start.frames)) none (frames_of start ++ more) refl
@@ -324,7 +329,8 @@ numbered_none form trace more fault follows h none =
     let images = dumps trace ++ more in
     let calls = events trace ++ images in
     let rest = logs trace ++ calls in
-    unit_none (counts_bytes trace.version) (counts_unit trace.version) (Some BadCount) (IsCounts trace.version) (counts trace.version) (BehindCounts form trace.version)
+    unit_none (counts_bytes trace.version) (counts_unit trace.version) (Some BadCount) (IsCounts trace.version) (counts trace.version)
+    (BehindCounts form trace.version)
     (counts_apart trace.version) (counts_of trace) (counted trace ++ more) fault (length-counts trace.version (counts_of trace)) (counts_fit trace h)
     (λ x. layout_none form trace.version trace.layout (AtStart (start_frames trace.start) behind) (counted trace ++ more) fault follows
     (λ y. start_none trace.start behind rest fault h.start
@@ -340,9 +346,11 @@ numbered_none form trace more fault follows h none =
 no_fault_ahead : (form : Form) (bytes more : List ℕ) (trace : Recording) (fault : Refusal) → SpellsAs form bytes trace
     → (AtEnd trace.version more fault → ⊥) → HasRefusalAs form (bytes ++ more) fault → ⊥
 no_fault_ahead form bytes more trace fault spells none =
-    unit_none {A = Unit {0}} 4 units.Magic (Some BadMagic) (λ _. ⊤) (λ _. magic_of form) (λ _. BehindMagic form) (magic_apart form) tt (versioned trace ++ more) fault
+    unit_none {A = Unit {0}} 4 units.Magic (Some BadMagic) (λ _. ⊤) (λ _. magic_of form) (λ _. BehindMagic form) (magic_apart form) tt
+    (versioned trace ++ more) fault
     (length-magic form) tt
-    (unit_none 2 units.Version (Some BadVersion) (IsVersionOf form) version_word (BehindVersion form) (versions_apart form) trace.version (numbered trace ++ more) fault
+    (unit_none 2 units.Version (Some BadVersion) (IsVersionOf form) version_word (BehindVersion form) (versions_apart form) trace.version
+    (numbered trace ++ more) fault
     refl spells.of_form (numbered_none form trace more fault spells.follows spells.in_range none) (versioned trace ++ more)
     (append_assoc (version_word trace.version) (numbered trace) more))
     (bytes ++ more)

@@ -43,7 +43,8 @@ record GoesAlong (form : Form) (Beside : List ℕ → List ℕ → Type 0) (faul
   pub end : (version : Version) (rest : List ℕ) → IsVersionOf form version → Beside rest [] → IsFaulty (AtEnd version) rest fault
 
 module _ {form : Form} {Beside : List ℕ → List ℕ → Type 0} {fault : Format} (along : GoesAlong form Beside fault) where
-  at_unit : {A : Type 0} (bytes : ℕ) (named : TraceUnit) (own : Option Format) (Fits : A → Type 0) (spelled : A → List ℕ) (Behind : A → List ℕ → Refusal → Type 0)
+  at_unit : {A : Type 0} (bytes : ℕ) (named : TraceUnit) (own : Option Format) (Fits : A → Type 0) (spelled : A → List ℕ) (Behind : A → List ℕ
+      → Refusal → Type 0)
       (v : A) (behind rest : List ℕ) → Fits v → length (spelled v) ≡ bytes → ((more : List ℕ) → Beside more behind → IsFaulty (Behind v) more fault)
       → Beside rest (spelled v ++ behind) → IsFaulty (AtUnit bytes named own Fits spelled Behind) rest fault
   at_unit {A} bytes named own Fits spelled Behind v behind rest fits long then h = by_front (along.unit (spelled v) behind rest h) where
@@ -97,7 +98,8 @@ module _ {form : Form} {Beside : List ℕ → List ℕ → Type 0} {fault : Form
       (λ more. at_events version of layout (index + 1) es images more fit.1 images_fit each)
       (subst (Beside rest) (append_assoc (event e) (flat_map event es) (flat_map dump images)) h)
 
-  at_log : (version : Version) → IsVersionOf form version → (layout : Layout) (place : ℕ) (calls : List ℕ) (es : List Event) (images : List Image) (rest : List ℕ)
+  at_log : (version : Version) → IsVersionOf form version → (layout : Layout) (place : ℕ) (calls : List ℕ) (es : List Event) (images : List Image)
+      (rest : List ℕ)
       → AllByRecursion (λ call. call < 2 ^ 32) calls → AllByRecursion (IsEvent version layout) es → AllByRecursion (IsImage version) images
       → length images ≡ layout.replicas → Beside rest (flat_map log_word calls ++ (flat_map event es ++ flat_map dump images))
       → IsFaulty (AtLog version layout place (length calls) (length es)) rest fault
@@ -118,7 +120,8 @@ module _ {form : Form} {Beside : List ℕ → List ℕ → Type 0} {fault : Form
         by_count : (n : ℕ) → finite.len start.frames ≡ n → 1 ≤ n → IsFaulty (AtStart n Behind) rest fault
         by_count zero count some = absurd (omega arith)
         by_count (suc n) count some =
-            at_unit 8 units.StartRoot None (λ root. root < 2 ^ 64) frame_number (λ _. AtFrames of_start 0 (suc n) None Behind) start.root (frames_of start ++ behind) rest
+            at_unit 8 units.StartRoot None (λ root. root < 2 ^ 64) frame_number (λ _. AtFrames of_start 0 (suc n) None Behind) start.root
+            (frames_of start ++ behind) rest
             fit.image.root refl
             (λ more g. subst (λ (k : ℕ). IsFaulty (AtFrames of_start 0 k None Behind) more fault) (sym (finite.len-entries start.frames) ∙ count)
             (at_frames of_start 0 (finite.entries start.frames) None Behind behind more (image_frames_fit Segment start fit.image)
@@ -128,13 +131,15 @@ module _ {form : Form} {Beside : List ℕ → List ℕ → Type 0} {fault : Form
   at_counts : (trace : Recording) → IsVersionOf form trace.version → Follows form trace.layout → IsRecording trace → (rest : List ℕ)
       → Beside rest (numbered trace) → IsFaulty (BehindVersion form trace.version) rest fault
   at_counts trace of follows h rest =
-      at_unit (counts_bytes trace.version) (counts_unit trace.version) (Some BadCount) (IsCounts trace.version) (counts trace.version) (BehindCounts form trace.version)
+      at_unit (counts_bytes trace.version) (counts_unit trace.version) (Some BadCount) (IsCounts trace.version) (counts trace.version)
+      (BehindCounts form trace.version)
       (counts_of trace) (counted trace) rest (counts_fit trace h) (length-counts trace.version (counts_of trace))
       (λ more g. follows_then more (at_start trace.start (AtLog trace.version trace.layout 0 (length trace.log) (length trace.events))
       (logs trace ++ (events trace ++ dumps trace)) more h.start
       (λ less. at_log trace.version of trace.layout 0 trace.log trace.events trace.dumps less (recursion_from_All _ _ h.log)
       (recursion_from_All (IsEvent trace.version trace.layout) trace.events h.events) (recursion_from_All _ _ h.dumps) h.one_dump_each) g)) where
-        follows_then : (more : List ℕ) → IsFaulty (AtStart (start_frames trace.start) (AtLog trace.version trace.layout 0 (length trace.log) (length trace.events))) more fault
+        follows_then : (more : List ℕ)
+            → IsFaulty (AtStart (start_frames trace.start) (AtLog trace.version trace.layout 0 (length trace.log) (length trace.events))) more fault
             → IsFaulty (BehindCounts form trace.version (counts_of trace)) more fault
         follows_then more (unit, left, behind) = (unit, left, inr (follows, behind))
 
@@ -142,7 +147,8 @@ module _ {form : Form} {Beside : List ℕ → List ℕ → Type 0} {fault : Form
   beside_a_spelling : (bytes : List ℕ) (trace : Recording) → IsVersionOf form trace.version → Follows form trace.layout → IsRecording trace
       → Beside bytes (spelling trace) → HasFaultAs form bytes fault
   beside_a_spelling bytes trace of follows h beside =
-      at_unit {A = Unit {0}} 4 units.Magic (Some BadMagic) (λ _. ⊤) (λ _. magic_of form) (λ _. BehindMagic form) tt (versioned trace) bytes tt (length-magic form)
+      at_unit {A = Unit {0}} 4 units.Magic (Some BadMagic) (λ _. ⊤) (λ _. magic_of form) (λ _. BehindMagic form) tt (versioned trace) bytes tt
+      (length-magic form)
       (λ more. at_unit 2 units.Version (Some BadVersion) (IsVersionOf form) version_word (BehindVersion form) trace.version (numbered trace) more of refl
       (at_counts trace of follows h))
       (subst (Beside bytes) (spelling_is trace ∙ ap (λ (l : List ℕ). l ++ versioned trace) (magic_is form trace.version of)) beside)

@@ -61,7 +61,8 @@ unfolding AtLog
 no_place version layout place places events rest fault none h = subst (λ n. AtLog version layout place n events rest fault) (sym none) h
 
 -- no event is left
-no_event : (version : Version) (layout : Layout) (index events : ℕ) (rest : List ℕ) (fault : Refusal) → events ≡ 0 → AtDumps version 0 layout.replicas rest fault
+no_event : (version : Version) (layout : Layout) (index events : ℕ) (rest : List ℕ) (fault : Refusal) → events ≡ 0
+    → AtDumps version 0 layout.replicas rest fault
     → AtEvents version layout index events rest fault
 unfolding AtEvents
 no_event version layout index events rest fault none h = subst (λ n. AtEvents version layout index n rest fault) (sym none) h

@@ -66,7 +66,8 @@ as_many_places before run after count placed all = omega (arith, all, ap length 
 pub places_taken : (form : Form) (version : Version) (layout : Layout) (front : ℕ → List ℕ) (places events : ℕ) (log more : List ℕ)
     (recorded : List Event) (dumps : List Image) (run : List ℕ) (count : ℕ) (reader : Reader)
     → count ≤ places → length run ≡ 4 * count → recorded ≡ [] → dumps ≡ [] → ArePlaced log run more
-    → HasRead form (spelling_of (front (length more + (places - count))) more recorded dumps) (AtLog version layout (length more) (places - count) events) reader
+    → HasRead form (spelling_of (front (length more + (places - count))) more recorded dumps)
+    (AtLog version layout (length more) (places - count) events) reader
     → HasRead form (spelling_of (front (length log + places)) log recorded dumps ++ run)
     (λ rest fault. AtLog version layout (length log) places events (run ++ rest) fault) reader
 places_taken form version layout front places events log more recorded dumps run count reader few all no_events no_dumps placed has =

@@ -65,7 +65,8 @@ pub passed : {A : Type 0} (bytes : ℕ) (named : TraceUnit) (own : Option Format
 passed bytes named own Fits spelled Behind fault unit rest value fits e behind = inr (inr (value, rest, fits, ap (λ (l : List ℕ). l ++ rest) e, behind))
 
 -- what has been read may be said in other words, and its faults go into others
-pub goes_on : (form : Form) (reader : Reader) (bytes more : List ℕ) (Behind Before : List ℕ → Refusal → Type 0) → HasRead form bytes Behind reader → bytes ≡ more
+pub goes_on : (form : Form) (reader : Reader) (bytes more : List ℕ) (Behind Before : List ℕ → Refusal → Type 0) → HasRead form bytes Behind reader
+    → bytes ≡ more
     → ((rest : List ℕ) (fault : Refusal) → Behind rest fault → Before rest fault) → HasRead form more Before reader
 goes_on form reader bytes more Behind Before has e into =
     record { form_is = has.form_is; ready = has.ready; bytes_are = has.bytes_are ∙ e; faults = λ rest fault h. into rest fault (has.faults rest fault h) }
@@ -86,7 +87,8 @@ unfolding AtEvents
 event_passed version layout index zero recorded unit rest fault some fits e behind = absurd (omega arith)
 event_passed version layout index (suc events) recorded unit rest fault some fits e behind =
     let down : suc events - 1 ≡ events = omega arith in
-    passed 24 (units.Event index) (Some (BadEvent index)) (IsEvent version layout) event (λ _. AtEvents version layout (index + 1) events) fault unit rest recorded fits e
+    passed 24 (units.Event index) (Some (BadEvent index)) (IsEvent version layout) event (λ _. AtEvents version layout (index + 1) events) fault unit
+    rest recorded fits e
     (subst (λ n. AtEvents version layout (index + 1) n rest fault) down behind)
 
 pub event_refused : (version : Version) (layout : Layout) (index events : ℕ) (unit rest : List ℕ) → 1 ≤ events → length unit ≡ 24

@@ -76,7 +76,8 @@ too_short (Magic alloc form) len rest ready is short = inl (omega (arith, some_i
 too_short (Version alloc form) len rest ready is short = inl (omega (arith, some_is 2 len is), refl)
 too_short (Header alloc form version) len rest ready is short = inl (omega (arith, some_is (counts_bytes version) len is), refl)
 too_short (Root parts numbers) len rest ready is short = short_start numbers.start _ rest ready.4 (omega (arith, some_is 8 len is))
-too_short (Log parts places events) len rest ready is short = short_log parts.version parts.layout (length parts.log.items) places events rest ready.1 (omega (arith, some_is 4 len is))
+too_short (Log parts places events) len rest ready is short = short_log parts.version parts.layout (length parts.log.items) places events rest ready.1
+    (omega (arith, some_is 4 len is))
 too_short (Events parts events) len rest ready is short =
     short_event parts.version parts.layout (length parts.events.items) events rest ready.1 (omega (arith, some_is 24 len is))
 too_short (Dumps parts) len rest ready is short =

@@ -346,7 +346,8 @@ module _ (target : Target) {old new : Memory} (same : AreSameButFlags old new) (
       (subst (IsTold target old base bits) answer.1 told)))
 
   -- a prune answers no bits
-  prune_told : (address : ℕ) (xs : List Store) (next : ℕ) → (xs ≡ [] → ⊥) → Was (Prune address) xs → IsTold target new address (told_again reply next bits) reply
+  prune_told : (address : ℕ) (xs : List Store) (next : ℕ) → (xs ≡ [] → ⊥) → Was (Prune address) xs
+      → IsTold target new address (told_again reply next bits) reply
   prune_told address xs next some was =
       let answer = changed_answer reply xs was.nothing some in
       let done : reply ≡ replies.Answer answers.Done = answer.1
@@ -452,6 +453,7 @@ module _ {target : Target} {request : Request} {memory : Memory} {space : Space}
         written = changed.written;
         changing = changed.changing;
         told = told_by target same space offered plan.reply plan.bits fill plan.flush unlinked word request xs index is.store is.within is.there is.flags right
-            put (λ takes. subst (IsTold target now (address_of request) (told_again plan.reply (bits_again index unlinked word is.store.new plan.bits) plan.bits)) is.reply
+            put (λ takes. subst (IsTold target now (address_of request)
+            (told_again plan.reply (bits_again index unlinked word is.store.new plan.bits) plan.bits)) is.reply
             (subst (λ b. IsTold target now (address_of request) b again.reply) is.bits (told takes)));
       }))

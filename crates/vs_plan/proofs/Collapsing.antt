@@ -412,7 +412,8 @@ module _ {p : Planner} {word : ℕ} (end : IsAtEnd p) {place : ℕ} {own : Right
     collapse_right allows low words like answer_is bits_are {above} up {plan} reply bits fill stores flush unlinked memory ended there space premise =
         let here = end_at end ended premise (ap address_of is) in
         let one = is_first ended there in
-        let met = ended.met.tables (suc p.level) (omega arith) (omega (arith, (few_over base phys p.target.phys_bits p.level none), four_levels p.target.depth)) in
+        let met = ended.met.tables (suc p.level) (omega arith)
+        (omega (arith, (few_over base phys p.target.phys_bits p.level none), four_levels p.target.depth)) in
         let met_here = subst (λ a. IsTableMet p.target.depth memory p.target.root a (suc p.level) (slice_index p.numbers (suc p.level))
         (slice_index p.words (suc p.level))) (ap address_of is) met in
         let like_here : (i : ℕ) → i < 512 → IsLike (size_at p.level) word (slice_index words i) =

@@ -118,7 +118,8 @@ module _ {memory : Memory} {p : Planner} (divided : IsDivided memory p) (request
 
   -- a page that has parts is refused nothing
   pub division_due : refusal p.target space p.request ≡ None
-  division_due = divides_due p.target space p.request divided.divides ∙ ap (split_refusal space) divided.place ∙ never_refused p.target p.level divided_end divided.large divided.page.2 divided.aligned
+  division_due = divides_due p.target space p.request divided.divides ∙ ap (split_refusal space) divided.place
+      ∙ never_refused p.target p.level divided_end divided.large divided.page.2 divided.aligned
 
   divided_right : {base number phys : ℕ} {own : Rights} → p.request ≡ Split base → meaning p.level (slice_index p.words p.level) ≡ entry.Leaf phys own
       → number < frames_end p.target → IsSpare p.target.depth memory p.target.root number

@@ -341,7 +341,12 @@ module _ (target : Target) {memory : Memory} {space : Space} {base low number wo
     found_page = page_here down some told premise_at (canonical i room) (part_says i room)
 
     part_table : IsOwnTable target.depth (linked n) target.root low (at i) frame
-    part_table = record { own = own_at; whole = whole_at; used = used_word (linked n) frame (index_at low (at i)) (slice_index run_words i) told; at = at_frame }
+    part_table = record {
+      own = own_at;
+      whole = whole_at;
+      used = used_word (linked n) frame (index_at low (at i)) (slice_index run_words i) told;
+      at = at_frame;
+    }
 
     abbrev cleared : Memory
     cleared = with_word (linked n) frame (index_at low (at i)) 0

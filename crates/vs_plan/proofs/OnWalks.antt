@@ -193,7 +193,8 @@ module _ (target : Target) (memory start : Memory) (same : HasSameTables target.
 
 module _ {target : Target} {request : Request} {memory start : Memory} {space : Space} {offered : List (Option ℕ)} {reply : Reply} {fill : Option Fill}
     {stores : List Store} {unlinked : List ℕ} {flush : Flush}
-    (given : IsGiven target request memory start space offered reply fill stores unlinked flush) (canonical : IsCanonical target.depth (address_of request)) where
+    (given : IsGiven target request memory start space offered reply fill stores unlinked flush)
+    (canonical : IsCanonical target.depth (address_of request)) where
   abbrev base : ℕ
   base = address_of request
 

@@ -255,7 +255,8 @@ module _ {p : Planner} {word : ℕ} (end : IsAtEnd p) {address : ℕ} (is : p.re
       (cases_eq i (index_at p.level address))
 
   pub prune_right : p.level < highest_link p.target → word % 2 ≡ 0
-      → ((i : ℕ) → i < 512 → i ≢ index_at p.level address → slice_index words i % 2 ≡ 0) → {plan : Plan} → plan.reply ≡ replies.Answer answers.Done → plan.bits ≡ 0
+      → ((i : ℕ) → i < 512 → i ≢ index_at p.level address → slice_index words i % 2 ≡ 0) → {plan : Plan} → plan.reply ≡ replies.Answer answers.Done
+      → plan.bits ≡ 0
       → plan.fill ≡ None → {above : ℕ} → above ≡ suc p.level
       → plan.stores.items ≡ store_at (slice_index p.numbers above) (index_at above address) (slice_index p.words above) 0 ∷ []
       → plan.flush ≡ flushes.PageAndTables address K4 → plan.unlinked.items ≡ p.number ∷ [] → IsRightWith p word words plan
@@ -265,6 +266,7 @@ module _ {p : Planner} {word : ℕ} (end : IsAtEnd p) {address : ℕ} (is : p.re
       let met_here = subst (λ a. IsTableMet p.target.depth memory p.target.root a (suc p.level) (slice_index p.numbers (suc p.level))
       (slice_index p.words (suc p.level))) (ap address_of is) met in
       subst (λ r. IsRight p.target r memory space [] plan) (sym is)
-      (right_as plan reply bits fill (subst (λ a. plan.stores.items ≡ store_at (slice_index p.numbers a) (index_at a address) (slice_index p.words a) 0 ∷ []) up stores)
+      (right_as plan reply bits fill
+      (subst (λ a. plan.stores.items ≡ store_at (slice_index p.numbers a) (index_at a address) (slice_index p.words a) 0 ∷ []) up stores)
       flush unlinked
       (prune_parts p.target at end.some (omega (arith, low)) there (all_even ended there here others) met_here))

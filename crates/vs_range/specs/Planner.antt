@@ -345,7 +345,8 @@ pub record IsRunNext (memory : Memory) (range : RangePlanner) (run : Run) : Type
   pub right : (space : Space) → IsPremise range.planner.target.depth memory range.planner.target.root range.base space
       → IsRunRight range.planner.target range.planner.request memory space run
 
--- a harvest, where a page is asked of: it has a page, its words are entries of pages, and it is within the range. Each store finds the entry of a page, and takes the two flags from it and nothing else; and
+-- a harvest, where a page is asked of: it has a page, its words are entries of pages, and it is within the range. Each store finds the
+-- entry of a page, and takes the two flags from it and nothing else; and
 -- what is kept of its pages is dropped, so that a processor sets the flags again
 pub record IsHarvestNext (memory : Memory) (range : RangePlanner) (run : Run) : Type 0 where
   pub kind : IsAsk range.planner.request

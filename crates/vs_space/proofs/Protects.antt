@@ -102,7 +102,8 @@ protect_inside depth limit space base rights q here apart =
 
 -- a table that doesn't change makes a step whose space stays
 pub stays : {t : PageTable} {action : Action} {answer : Answer} → IsPageTable t
-    → ClearsPage t.depth t.root action answer t.memory t.memory → ((space : Space) → IsTableOf t space → step t.depth t.limit space action ≡ record { space = space; answer = answer }) → IsTableStep t action answer t
+    → ClearsPage t.depth t.root action answer t.memory t.memory → ((space : Space) → IsTableOf t space → step t.depth t.limit space action
+    ≡ record { space = space; answer = answer }) → IsTableStep t action answer t
 stays {t} {action} table cleared says = record {
   some_space = own_space table;
   same = refl;

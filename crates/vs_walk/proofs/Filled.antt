@@ -122,7 +122,8 @@ zero_at (suc n) (suc i) = zero_at n i
 zero_at _ _ = refl
 
 -- behind the zeros and the first word
-behind : (from p w : ℕ) (rest : List ℕ) (i : ℕ) → from ≤ p → p + 1 ≤ i → get_or (replicate (p - from) 0 ++ (w ∷ rest)) (i - from) 0 ≡ get_or rest (i - (p + 1)) 0
+behind : (from p w : ℕ) (rest : List ℕ) (i : ℕ) → from ≤ p → p + 1 ≤ i → get_or (replicate (p - from) 0 ++ (w ∷ rest)) (i - from) 0
+    ≡ get_or rest (i - (p + 1)) 0
 behind from p w rest i low high =
     let next : i - from - (p - from) ≡ suc (i - (p + 1)) = omega (arith, low, high) in
     get_or-append_right (replicate (p - from) 0) (w ∷ rest) (p - from) (i - from) 0 (length-replicate {A = ℕ} (p - from) 0) (omega (arith, low, high))

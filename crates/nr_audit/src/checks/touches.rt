@@ -240,7 +240,8 @@ fn number_in(touches: &[Touch], index: Option<usize>) -> Option<u32>
 }
 
 /// What is found of a segment's touches and releases: the call number of the first touch that is stale, or `None`; that of the first
-/// release that is wrong, or `None`; what is counted of a right segment, if that is asked; what is left for the touches of later segments; and the space with which the segment begins.
+/// release that is wrong, or `None`; what is counted of a right segment, if that is asked; what is left for the
+/// touches of later segments; and the space with which the segment begins.
 #[derive(Drop)]
 pub(crate) struct Touched {
     pub(crate) stale: Option<u32>,

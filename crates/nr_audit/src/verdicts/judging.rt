@@ -44,7 +44,8 @@ fn parts_of(alloc: Global, before: Option<Past>) -> (Option<PlainSpace>, Tail)
 }
 
 /// The recorded order of a segment that is right, and what is kept for the next one: the space after its whole log, and how addresses
-/// may still be found to look otherwise; and with `counts` what is counted of it. `before` is what the segment before left; without one the segment is the first of its chain. A
+/// may still be found to look otherwise; and with `counts` what is counted of it. `before` is what the segment before
+/// left; without one the segment is the first of its chain. A
 /// trace is such a first one, without a start, touches and releases.
 ///
 /// The space that is kept, where there is one, has the depth and the limit of the segment's layout. A segment with a start is then

@@ -5,5 +5,28 @@ use Rattle.nr_machine.proofs.MovesTests.{may_move_all}
 use Rattle.nr_machine.proofs.laws.calls_can_wait.Goals as goal
 
 pub returns-clause-may : goal.returns-clause-may
-returns-clause-may c = (may_move_all 2 (at_start 2 new_machine) lagging
-    (refl, (refl, (refl, (refl, (refl, (refl, (refl, (refl, (refl, (refl, (refl, (refl, (refl, (refl, (refl, (refl, (refl, (refl, (refl, (refl, (refl, (refl, tt))))))))))))))))))))))).sound refl
+returns-clause-may c = (may_move_all 2 (at_start 2 new_machine) lagging (
+  refl,
+  (
+    refl,
+    (
+      refl,
+      (
+        refl,
+        (
+          refl,
+          (
+            refl,
+            (
+              refl,
+              (
+                refl,
+                (refl, (refl, (refl, (refl, (refl, (refl, (refl, (refl, (refl, (refl, (refl, (refl, (refl, (refl, tt)))))))))))))),
+              ),
+            ),
+          ),
+        ),
+      ),
+    ),
+  ),
+)).sound refl

@@ -54,7 +54,8 @@ loop-next-preserved c =
     let next = c.next_nonzero-next-in-loop-next in
     record {
       added = next_added c.args.places.now.items c.args.words.now.items c.loop-next.places.items c.loop-next.words.items
-          c.push_reserved.new.self.items c.push_reserved-in-loop-next.new.self.items frame c.loop-next.next c.word.result next.result c.loop-next.invariant.added
+          c.push_reserved.new.self.items c.push_reserved-in-loop-next.new.self.items frame c.loop-next.next c.word.result next.result
+          c.loop-next.invariant.added
           (omega (arith, c.loop-next-test.true, c.next_nonzero-next.ensures.whole)) c.word.ensures (c.loop-next.invariant.found c.loop-next-test.true)
           c.word.type_inv c.push_reserved.ensures.items c.push_reserved-in-loop-next.ensures.items next.ensures.behind
           (omega (arith, next.ensures.within, next.ensures.whole)) next.ensures.zeros;

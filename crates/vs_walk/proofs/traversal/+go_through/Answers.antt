@@ -85,7 +85,8 @@ returns-in_err-go_through-in-Table-clause-stops g t c =
     (table_visits c.args.depth memory c.below-below.result.level (table_at c.below-below.result)) fault
     c.requires.lowest some (omega (arith, c.loop-next-test.true, c.next_word-next.ensures.whole))
     (leads_below c.args.depth memory c.args.place c.below-below.result index (get_or words index 0) c.in-Table.number c.in-Table.own
-    (ap (meaning c.args.place.level) (sym (c.new.ensures ∙ c.loop-next.invariant.word)) ∙ sym c.in-Table.ensures) c.below-below.ensures.level c.below-below.ensures.stands)
+    (ap (meaning c.args.place.level) (sym (c.new.ensures ∙ c.loop-next.invariant.word)) ∙ sym c.in-Table.ensures) c.below-below.ensures.level
+    c.below-below.ensures.stands)
     c.loop-next.invariant.goes_on stops)
     c.in_err-go_through-in-Table.ensures.stops)
 

@@ -16,7 +16,8 @@ returns-in_err-reader-in-Some c =
     let begun = c.args.begun.items in
     let piece = c.args.piece.now in
     let refused : IfRefused (IsRefusedAs (form_of reader) (said reader ++ begun ++ piece) (length (begun ++ piece))) c.in_err-reader-in-Some.field-0.0 =
-    subst (λ (l : List ℕ). IfRefused (IsRefusedAs (form_of reader) l (length (begun ++ piece))) c.in_err-reader-in-Some.field-0.0) (sym (append_assoc (said reader) begun piece))
+    subst (λ (l : List ℕ). IfRefused (IsRefusedAs (form_of reader) l (length (begun ++ piece))) c.in_err-reader-in-Some.field-0.0)
+    (sym (append_assoc (said reader) begun piece))
     (refuses (form_of reader) (said reader) (begun ++ piece) reader (begun ++ piece) c.deref.result.now c.split_at.result.1.now
     c.in_err-reader-in-Some.field-0.0 (starts reader (begun ++ piece) c.requires.sound)
     (unit_completed begun piece c.split_at.result.0.now c.split_at.result.1.now c.deref.result.now (search rules) (c.deref.ensures.value

@@ -23,9 +23,11 @@ returns-then-not-follows c =
     let unit = c.args.unit.now in
     let refusal = c.bad_counts.result in
     let counted : (rest : List ℕ) → and_then rest refusal ≡ refusal_of_counts version rest BadChain = λ rest.
-    ap (and_then rest) c.bad_counts.ensures ∙ ap (λ (n : ℕ). let refusal : Refusal = record { fault = BadChain; unit = counts_unit version; left = n + length rest }
+    ap (and_then rest) c.bad_counts.ensures
+    ∙ ap (λ (n : ℕ). let refusal : Refusal = record { fault = BadChain; unit = counts_unit version; left = n + length rest }
     in refusal) c.requires.whole in
-    refused_by (Ahead (Header c.args.alloc form version)) (counts_unit version) unit BadChain refusal (omega (arith, c.requires.whole, size_of_counts version)) c.bad_counts.ensures
+    refused_by (Ahead (Header c.args.alloc form version)) (counts_unit version) unit BadChain refusal
+    (omega (arith, c.requires.whole, size_of_counts version)) c.bad_counts.ensures
     (λ rest.
     passed (counts_bytes version) (counts_unit version) (Some BadCount) (IsCounts version) (counts version) (BehindCounts form version)
     (and_then rest refusal) unit rest numbers spells.in_range spells.spelled (inl (otherwise, counted rest)))
@@ -50,6 +52,7 @@ returns-in-None c =
     let unit = c.args.unit.now in
     let refusal = c.bad_counts-in-None.result in
     let is = c.bad_counts-in-None.ensures in
-    refused_by (Ahead (Header c.args.alloc c.args.form version)) (counts_unit version) unit BadCount refusal (omega (arith, c.requires.whole, size_of_counts version)) is (λ rest.
+    refused_by (Ahead (Header c.args.alloc c.args.form version)) (counts_unit version) unit BadCount refusal
+    (omega (arith, c.requires.whole, size_of_counts version)) is (λ rest.
     refused (counts_bytes version) (counts_unit version) BadCount (IsCounts version) (counts version) (BehindCounts c.args.form version) unit rest
     refusal is c.requires.whole (λ numbers fits e. c.in-None.ensures numbers (record { in_range = fits; spelled = e })))

@@ -27,17 +27,17 @@ returns-clause-next g c = λ memory shown got.
     c.count_pages-found.ensures.most c.count_pages-found.ensures.ends c.most_here.ensures.most))
 
 pub returns-in_default-clause-taken : goal.returns-in_default-clause-taken
-returns-in_default-clause-taken g c = none_takes c.args.self.now (g.W.FrameWords.words c.args.words.now) c.args.word _ (λ map. subst IsMap c.requires.request map)
-    c.requires.read c.in_default.ensures
+returns-in_default-clause-taken g c = none_takes c.args.self.now (g.W.FrameWords.words c.args.words.now) c.args.word _
+    (λ map. subst IsMap c.requires.request map) c.requires.read c.in_default.ensures
 
 pub returns-then-self-bytes-clause-taken : goal.returns-then-self-bytes-clause-taken
-returns-then-self-bytes-clause-taken g c = beyond_takes c.args.self.now (g.W.FrameWords.words c.args.words.now) c.args.word c.in-Some.size (λ map. subst IsMap c.requires.request map)
-    c.in-Some.ensures
+returns-then-self-bytes-clause-taken g c = beyond_takes c.args.self.now (g.W.FrameWords.words c.args.words.now) c.args.word c.in-Some.size
+    (λ map. subst IsMap c.requires.request map) c.in-Some.ensures
     (beyond_bytes c.in-Some.size c.bytes.result c.args.self.now.bytes c.bytes.ensures (omega (arith, c.if-self-bytes.true)))
 
 pub returns-then-not-permits-clause-taken : goal.returns-then-not-permits-clause-taken
-returns-then-not-permits-clause-taken g c = refused_takes c.args.self.now (g.W.FrameWords.words c.args.words.now) c.args.word c.in-Some.size _ (λ map. subst IsMap c.requires.request map)
-    c.in-Some.ensures
+returns-then-not-permits-clause-taken g c = refused_takes c.args.self.now (g.W.FrameWords.words c.args.words.now) c.args.word c.in-Some.size _
+    (λ map. subst IsMap c.requires.request map) c.in-Some.ensures
     (omega (arith, c.if-self-bytes.false, c.bytes.ensures))
     (λ run. c.permits.ensures.less c.if-not-permits.true
     (subst (λ (q : Request). IsInRun c.args.self.now (g.W.FrameWords.words c.args.words.now) q) c.requires.request run))

@@ -49,26 +49,27 @@ returns-clause-next g c = λ memory shown got.
     c.count_pages-pages.ensures.same c.removed-count.ensures.alone)))
 
 pub returns-in_default-clause-taken : goal.returns-in_default-clause-taken
-returns-in_default-clause-taken g c = none_takes c.args.self.now (g.W.FrameWords.words c.args.words.now) c.args.word _ (λ map. subst IsMap c.requires.request map)
-    c.requires.read c.in_default.ensures
+returns-in_default-clause-taken g c = none_takes c.args.self.now (g.W.FrameWords.words c.args.words.now) c.args.word _
+    (λ map. subst IsMap c.requires.request map) c.requires.read c.in_default.ensures
 
 pub returns-then-self-bytes-clause-taken : goal.returns-then-self-bytes-clause-taken
-returns-then-self-bytes-clause-taken g c = beyond_takes c.args.self.now (g.W.FrameWords.words c.args.words.now) c.args.word c.in-Some.size (λ map. subst IsMap c.requires.request map)
-    c.in-Some.ensures
+returns-then-self-bytes-clause-taken g c = beyond_takes c.args.self.now (g.W.FrameWords.words c.args.words.now) c.args.word c.in-Some.size
+    (λ map. subst IsMap c.requires.request map) c.in-Some.ensures
     (beyond_bytes c.in-Some.size c.bytes.result c.args.self.now.bytes c.bytes.ensures (omega (arith, c.if-self-bytes.true)))
 
 pub returns-then-self-clause-taken : goal.returns-then-self-clause-taken
-returns-then-self-clause-taken g c = refused_takes c.args.self.now (g.W.FrameWords.words c.args.words.now) c.args.word c.in-Some.size _ (λ map. subst IsMap c.requires.request map)
-    c.in-Some.ensures
+returns-then-self-clause-taken g c = refused_takes c.args.self.now (g.W.FrameWords.words c.args.words.now) c.args.word c.in-Some.size _
+    (λ map. subst IsMap c.requires.request map) c.in-Some.ensures
     (omega (arith, c.if-self-bytes.false, c.bytes.ensures))
     (λ run. let both : true ≡ false = sym c.if-self.true
     ∙ (subst (λ (q : Request). IsInRun c.args.self.now (g.W.FrameWords.words c.args.words.now) q) c.requires.request run).0 in cc)
 
 pub returns-then-count-eq0-clause-taken : goal.returns-then-count-eq0-clause-taken
-returns-then-count-eq0-clause-taken g c = refused_takes c.args.self.now (g.W.FrameWords.words c.args.words.now) c.args.word c.in-Some.size _ (λ map. subst IsMap c.requires.request map)
-    c.in-Some.ensures
+returns-then-count-eq0-clause-taken g c = refused_takes c.args.self.now (g.W.FrameWords.words c.args.words.now) c.args.word c.in-Some.size _
+    (λ map. subst IsMap c.requires.request map) c.in-Some.ensures
     (omega (arith, c.if-self-bytes.false, c.bytes.ensures))
-    (λ run. lone_page (g.W.FrameWords.words c.args.words.now) (g.W.FrameWords.words c.count_pages-pages.new.words) c.index_at-index.result _ c.removed-count.result
+    (λ run. lone_page (g.W.FrameWords.words c.args.words.now) (g.W.FrameWords.words c.count_pages-pages.new.words) c.index_at-index.result _
+    c.removed-count.result
     c.count_pages-pages.result.count c.count_pages-pages.ensures.same c.index_at-index.ensures.is (omega (arith, c.if-count-eq0.true))
     c.removed-count.ensures.least c.count_pages-pages.ensures.some c.removed-count.ensures.alone
     (subst (λ (q : Request). IsInRun c.args.self.now (g.W.FrameWords.words c.args.words.now) q) c.requires.request run).1)

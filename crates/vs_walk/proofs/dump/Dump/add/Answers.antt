@@ -25,7 +25,8 @@ added c =
     (subst (λ l. IsAdded c.reserve-3.new.self.items l (places c) (words c) (span c) c.args.words.now) c.in_ok-reserve-4.ensures.items
     c.push_frame-span.ensures)
 
-kept : (c : goal.After-push_reserved-2) → AreKept c.self.inside.applied c.self.inside.root c.self.inside.numbers.items c.self.inside.spans.items (places c) (words c)
+kept : (c : goal.After-push_reserved-2) → AreKept c.self.inside.applied c.self.inside.root c.self.inside.numbers.items c.self.inside.spans.items
+    (places c) (words c)
 kept c =
     added_kept c.self.inside.numbers.items c.self.inside.spans.items c.self.inside.places.items c.self.inside.words.items (places c) (words c)
     c.self.invariant (added c)

@@ -5,10 +5,12 @@ use Rattle.vs_walk.proofs.Dumps.{number_at, IsStanding, frame_count}
 use Rattle.vs_walk.proofs.Kept.{as_many_frames}
 use Rattle.vs_walk.proofs.dump.Dump.number.Goals as goal
 
-stands : (c : goal.After-self) → IsStanding (paired c.self.inside.numbers.items c.self.inside.spans.items c.self.inside.places.items c.self.inside.words.items) c.args.self.now.frames
+stands : (c : goal.After-self)
+    → IsStanding (paired c.self.inside.numbers.items c.self.inside.spans.items c.self.inside.places.items c.self.inside.words.items) c.args.self.now.frames
 stands c = record { is = ap (λ (d : Image). d.frames) c.self.view_is; rising = c.self.invariant.parts.rising }
 
-as_many : (c : goal.After-self) → length c.self.inside.numbers.items ≡ length (map (words_at c.self.inside.places.items c.self.inside.words.items) c.self.inside.spans.items)
+as_many : (c : goal.After-self) → length c.self.inside.numbers.items
+    ≡ length (map (words_at c.self.inside.places.items c.self.inside.words.items) c.self.inside.spans.items)
 as_many c = as_many_frames c.self.inside.numbers.items c.self.inside.spans.items c.self.inside.places.items c.self.inside.words.items c.self.invariant.as_many
 
 within : (c : goal.After-self) → c.args.k < length c.self.inside.numbers.items

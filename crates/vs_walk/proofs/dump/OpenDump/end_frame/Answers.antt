@@ -24,7 +24,8 @@ added : (c : goal.After-push_reserved-2)
 added c = subst (IsAdded c.self.inside.places.items c.self.inside.words.items (places c) (words c) (span c))
     (c.lent.ensures ∙ c.deref.ensures.value ∙ ap (λ (d : OpenImage). d.coming) c.self.view_is) c.push_frame-span.ensures
 
-kept : (c : goal.After-push_reserved-2) → AreKept c.self.inside.applied c.self.inside.root c.self.inside.numbers.items c.self.inside.spans.items (places c) (words c)
+kept : (c : goal.After-push_reserved-2) → AreKept c.self.inside.applied c.self.inside.root c.self.inside.numbers.items c.self.inside.spans.items
+    (places c) (words c)
 kept c =
     added_kept c.self.inside.numbers.items c.self.inside.spans.items c.self.inside.places.items c.self.inside.words.items (places c) (words c)
     c.self.invariant.open_for.before (added c)

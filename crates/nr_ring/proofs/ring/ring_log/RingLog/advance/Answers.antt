@@ -78,7 +78,8 @@ pub returns-then-try_advance-clause-history : goal.returns-then-try_advance-clau
 returns-then-try_advance-clause-history g c =
     let r = c.in-Some.replica in
     let ring = c.pass.inside.ring in
-    (c.try_advance.ensures.known ring (owner_remembers _ _ _ _ c.pass.inside.replica (Some r) ring c.pass.inside.inner c.pass.invariant c.in-Some.is)).is_history
+    (c.try_advance.ensures.known ring (owner_remembers _ _ _ _ c.pass.inside.replica (Some r) ring c.pass.inside.inner c.pass.invariant
+    c.in-Some.is)).is_history
 
 pub invariant_of-pass-2 : goal.invariant_of-pass-2
 invariant_of-pass-2 g c =

@@ -30,8 +30,11 @@ returns-in_err-place-clause-refused g c =
     let Looked : View → Type 0 = λ v. HasLooked g.J.LogName.depth g.J.LogName.replicas v p.view in
     let looked = subst Looked (ap (λ (k : Known). k.view) c.pass.view_is) c.find_room.ensures.looked in
     let e = err_from_is_err_and c.from_residual.result c.from_residual.ensures.1 in
-    rw (e.1, e.2)
-    (looked, barred g.J.LogName.places (log_after g.J.LogName.replicas p.view.seen) _ c.args.pass.now.view p.view c.in_err-place.field-0.0 c.in_err-place.ensures.room)
+    rw (e.1, e.2) (
+      looked,
+      barred g.J.LogName.places (log_after g.J.LogName.replicas p.view.seen) _ c.args.pass.now.view p.view c.in_err-place.field-0.0
+          c.in_err-place.ensures.room,
+    )
 
 pub try_append-requires : goal.try_append-requires
 try_append-requires g c =
@@ -41,7 +44,13 @@ try_append-requires g c =
     let log = log_after replicas p.view.seen in
     let room = c.in_ok-place.ensures.room in
     let may : MayAppend g.J.LogName.depth log c.args.batch.now =
-    record { some = c.requires.count.0; few = c.requires.count.1; entries = c.requires.entries; room = le_trans room.0 c.find_room.ensures.most; kept_up = room.1 } in
+    record {
+      some = c.requires.count.0;
+      few = c.requires.count.1;
+      entries = c.requires.entries;
+      room = le_trans room.0 c.find_room.ensures.most;
+      kept_up = room.1;
+    } in
     let packed = subst (MayAppend g.J.LogName.depth log) (sym (c.pack_all.ensures)) may in
     let Fits : List LogEntry → Type 0 = λ batch. HasRoom g.J.LogName.places log (length batch) in
     let within = subst Fits (sym (c.pack_all.ensures)) room.0 in (

@@ -30,8 +30,11 @@ returns-in_err-place-clause-refused g c =
     let Looked : View → Type 0 = λ v. HasLooked g.J.LogName.depth g.J.LogName.replicas v p.view in
     let looked = subst Looked (ap (λ (k : Known). k.view) c.pass.view_is) c.find_room.ensures.looked in
     let e = err_from_is_err_and c.from_residual.result c.from_residual.ensures.1 in
-    rw (e.1, e.2)
-    (looked, barred g.J.LogName.places (log_after g.J.LogName.replicas p.view.seen) _ c.args.pass.now.view p.view c.in_err-place.field-0.0 c.in_err-place.ensures.room)
+    rw (e.1, e.2) (
+      looked,
+      barred g.J.LogName.places (log_after g.J.LogName.replicas p.view.seen) _ c.args.pass.now.view p.view c.in_err-place.field-0.0
+          c.in_err-place.ensures.room,
+    )
 
 pub try_append_and_take-requires : goal.try_append_and_take-requires
 try_append_and_take-requires g c =
@@ -41,7 +44,13 @@ try_append_and_take-requires g c =
     let is = owner_remembers _ _ _ _ c.pass.inside.replica (Some c.in-Some.replica) c.pass.inside.ring p known c.in-Some.is in
     let room = c.in_ok-place.ensures.room in
     let may : MayAppend g.J.LogName.depth (log_after replicas p.view.seen) c.args.batch.now =
-    record { some = c.requires.count.0; few = c.requires.count.1; entries = c.requires.entries; room = le_trans room.0 c.find_room.ensures.most; kept_up = room.1 } in (
+    record {
+      some = c.requires.count.0;
+      few = c.requires.count.1;
+      entries = c.requires.entries;
+      room = le_trans room.0 c.find_room.ensures.most;
+      kept_up = room.1;
+    } in (
       search rules,
       (
         c.find_room.ensures.log ∙ ap (λ (k : Known). k.log) c.pass.view_is ∙ c.requires.log,
@@ -65,7 +74,13 @@ returns-then-try_append_and_take-clause-done g c =
     let is = owner_remembers _ _ _ _ c.pass.inside.replica (Some r) ring p known c.in-Some.is in
     let room = c.in_ok-place.ensures.room in
     let may : MayAppend depth (log_after replicas p.view.seen) c.args.batch.now =
-    record { some = c.requires.count.0; few = c.requires.count.1; entries = c.requires.entries; room = le_trans room.0 c.find_room.ensures.most; kept_up = room.1 } in
+    record {
+      some = c.requires.count.0;
+      few = c.requires.count.1;
+      entries = c.requires.entries;
+      room = le_trans room.0 c.find_room.ensures.most;
+      kept_up = room.1;
+    } in
     let Looked : View → Type 0 = λ v. HasLooked depth replicas v p.view in
     let looked = subst Looked (ap (λ (k : Known). k.view) c.pass.view_is) c.find_room.ensures.looked in
     both_done depth replicas _ _ r ring c.args.pass.now.view c.try_append_and_take.new.pass.view p c.args.batch.now c.try_append_and_take.new.before.items _

@@ -31,7 +31,8 @@ exchange_as-requires g c =
 
 pub returns-clause-view : goal.returns-clause-view
 returns-clause-view g c =
-    (exchange_tells g.J.LogName.depth g.J.LogName.replicas g.J.LogName.passes g.J.LogName.places c.requires.known.0 c.requires.known.1 g.E.Happening.ring c.args.pass.now
+    (exchange_tells g.J.LogName.depth g.J.LogName.replicas g.J.LogName.passes g.J.LogName.places c.requires.known.0 c.requires.known.1
+    g.E.Happening.ring c.args.pass.now
     c.exchange_as.new.pass g.E.Happening.events c.exchange_as.result c.requires.known.2 c.requires.ring c.requires.events c.exchange_as.ensures.same.2
     c.exchange_as.ensures.same.3 c.exchange_as.ensures.rule).1
 

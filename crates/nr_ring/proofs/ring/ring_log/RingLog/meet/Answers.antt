@@ -32,7 +32,8 @@ meet_as-requires g c =
 pub invariant_of-told : goal.invariant_of-told
 invariant_of-told g c =
     let same = c.meet_as.ensures.same in
-    met_remembers _ _ _ _ _ _ c.told.inside.inner c.meet_as.new.told (copy_of c.pass.inside.inner.view) c.told.invariant refl same.2 same.3 c.meet_as.ensures.rule
+    met_remembers _ _ _ _ _ _ c.told.inside.inner c.meet_as.new.told (copy_of c.pass.inside.inner.view) c.told.invariant refl same.2 same.3
+    c.meet_as.ensures.rule
 
 pub invariant_of-pass : goal.invariant_of-pass
 invariant_of-pass g c =

@@ -22,7 +22,8 @@ loop-place-init g c =
     let is = c.requires.known.1 in
     let pass = c.args.pass.now in
     let log = log_after g.J.LogName.replicas pass.view.seen in
-    let head = head_is g.J.LogName.depth g.J.LogName.replicas g.J.LogName.passes g.J.LogName.places (Some c.args.replica) c.requires.known.0 pass is c.head-head.result.now
+    let head = head_is g.J.LogName.depth g.J.LogName.replicas g.J.LogName.passes g.J.LogName.places (Some c.args.replica) c.requires.known.0 pass is
+    c.head-head.result.now
     c.head-head.ensures in
     let all : length log.entries ≤ slice_index c.head-head.result.now 0 = omega (arith, head.tail_is) in
     let fits = history_fits g.J.LogName.depth g.J.LogName.replicas pass.view.seen is.is_history in

@@ -40,7 +40,8 @@ exchange-requires g c =
     let event = sym c.requires.event.0 in
     let code_is : code ≡ code_of (slice_index head 0) (set (locals_in head) r c.args.to) (slice_index head 6) * 128 + slice_index head 7 =
     c.advanced_code-code.ensures in
-    let coded = advance_coded depth replicas passes places r mine p is ring head c.args.to (slice_index head 0) code c.head-head.ensures c.requires.may refl code_is in
+    let coded = advance_coded depth replicas passes places r mine p is ring head c.args.to (slice_index head 0) code c.head-head.ensures
+    c.requires.may refl code_is in
     let leads = advance_leads depth replicas passes places r mine p is c.args.to c.requires.may in
     let stored = advance_stored depth replicas passes places (Some r) mine ring p r c.args.to is c.requires.may in
     let Coded : List LogEvent → Type 0 = λ events. code ≡ code_in replicas (stored_after ring p.value events) in

@@ -80,7 +80,8 @@ returns-then-exchange-clause-view g c =
 
 pub returns-then-exchange-clause-known : goal.returns-then-exchange-clause-known
 returns-then-exchange-clause-known g c = λ ring is.
-    let Is : CellPass View Stored → Type 0 = λ p. Remembers g.J.LogName.depth g.J.LogName.replicas g.J.LogName.passes g.J.LogName.places (Some c.args.replica) ring p in
+    let Is : CellPass View Stored → Type 0 = λ p. Remembers g.J.LogName.depth g.J.LogName.replicas g.J.LogName.passes g.J.LogName.places
+    (Some c.args.replica) ring p in
     c.exchange.ensures.known (Some c.args.replica) ring (subst Is (sym c.read.ensures.same) is)
 
 pub returns-clause-view : goal.returns-clause-view
@@ -91,5 +92,6 @@ returns-clause-view g c =
 
 pub returns-clause-known : goal.returns-clause-known
 returns-clause-known g c = λ ring is.
-    let Is : CellPass View Stored → Type 0 = λ p. Remembers g.J.LogName.depth g.J.LogName.replicas g.J.LogName.passes g.J.LogName.places (Some c.args.replica) ring p in
+    let Is : CellPass View Stored → Type 0 = λ p. Remembers g.J.LogName.depth g.J.LogName.replicas g.J.LogName.passes g.J.LogName.places
+    (Some c.args.replica) ring p in
     c.exchange.ensures.known (Some c.args.replica) ring (subst Is (sym c.read.ensures.same) is)

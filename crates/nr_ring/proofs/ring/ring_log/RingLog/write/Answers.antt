@@ -16,7 +16,8 @@ use Rattle.nr_ring.proofs.ring.ring_log.RingLog.write.Goals as goal
 pub loop-entry-init : goal.loop-entry-init
 loop-entry-init g c =
     let is = c.requires.known.1 in
-    let head = head_is g.J.LogName.depth g.J.LogName.replicas g.J.LogName.passes g.J.LogName.places c.requires.known.0 c.args.ring c.args.pass.now is c.head-head.result.now
+    let head = head_is g.J.LogName.depth g.J.LogName.replicas g.J.LogName.passes g.J.LogName.places c.requires.known.0 c.args.ring c.args.pass.now is
+    c.head-head.result.now
     c.head-head.ensures in
     record {
       cell = refl;
@@ -75,7 +76,8 @@ overflow_add-rest g c =
     let Fit : LogEntry → Type 0 = λ e. IsLogEntry g.J.LogName.depth e in
     let low = rest_low g.J.LogName.depth entry (subst Fit (sym c.entry-item.is) fit) in
     let before = linked_low (last_ring c.args.pass.now.value) c.args.ring c.loop-entry.entry-index g.J.LogName.passes
-    (before_low g.J.LogName.depth replicas g.J.LogName.passes g.J.LogName.places c.requires.known.0 c.args.ring c.args.pass.now is (length c.args.pass.now.value.rings))
+    (before_low g.J.LogName.depth replicas g.J.LogName.passes g.J.LogName.places c.requires.known.0 c.args.ring c.args.pass.now is
+    (length c.args.pass.now.value.rings))
     is.ring_below in
     let rest : slice_index c.words.result 1 ≡ slice_index (log_words entry) 1 = ap (λ (ws : List ℕ). slice_index ws 1) c.words.ensures.spell in
     fits (slice_index c.words.result 1) c.loop-entry.before (omega (arith, low, rest)) (omega (arith, before, l.before, is.few_rings)) where

@@ -22,7 +22,8 @@ returns-in-Ok-clause-feeds c =
           let form = form_of w.in-Open.reader in
           let bytes = said w.in-Open.reader ++ w.in-Open.begun.items in
           let taken : HasTaken form bytes piece c.in-Ok.state c.in-Ok.count =
-          subst (λ r. MatchResult r (λ t. HasTaken form bytes piece t.0 t.1) (IfRefused (IsRefusedAs form (bytes ++ piece) (length (w.in-Open.begun.items ++ piece))))) (sym w.next-is ∙ c.in-Ok.is)
+          subst (λ r. MatchResult r (λ t. HasTaken form bytes piece t.0 t.1)
+          (IfRefused (IsRefusedAs form (bytes ++ piece) (length (w.in-Open.begun.items ++ piece))))) (sym w.next-is ∙ c.in-Ok.is)
           w.take_piece-next.ensures in
           segment_taken c.args.self.now before c.replace-state.result c.in-Ok.state w.in-Open.reader w.in-Open.begun piece c.in-Ok.count view feeding
           w.in-Open.is taken
@@ -40,7 +41,8 @@ returns-in-Err-clause-feeds c =
           let form = form_of w.in-Open.reader in
           let bytes = said w.in-Open.reader ++ w.in-Open.begun.items in
           segment_refused c.args.self.now before c.replace-state.result w.in-Open.reader w.in-Open.begun piece c.in-Err.fault view feeding w.in-Open.is
-          (subst (λ r. MatchResult r (λ t. HasTaken form bytes piece t.0 t.1) (IfRefused (IsRefusedAs form (bytes ++ piece) (length (w.in-Open.begun.items ++ piece))))) (sym w.next-is ∙ c.in-Err.is)
+          (subst (λ r. MatchResult r (λ t. HasTaken form bytes piece t.0 t.1)
+          (IfRefused (IsRefusedAs form (bytes ++ piece) (length (w.in-Open.begun.items ++ piece))))) (sym w.next-is ∙ c.in-Err.is)
           w.take_piece-next.ensures)
       | in-Stopped w ↦ segment_still_refused c.args.self.now before c.replace-state.result piece c.in-Err.fault view
           (let same = sym w.next-is ∙ c.in-Err.is in w.in-Stopped.is ∙ cc)
@@ -62,7 +64,8 @@ returns-in-Err-clause-refused c = λ all given.
           let here = subst (IsFeeding (forms.Segment before)) w.in-Open.is feeding in
           refused_so (forms.Segment before) state w.in-Open.reader w.in-Open.begun all piece c.in-Err.fault view w.in-Open.is here.2
           (subst (λ (f : Form). IfRefused (IsRefusedAs f (bytes ++ piece) (length (w.in-Open.begun.items ++ piece))) c.in-Err.fault) here.0
-          (subst (λ r. MatchResult r (λ t. HasTaken form bytes piece t.0 t.1) (IfRefused (IsRefusedAs form (bytes ++ piece) (length (w.in-Open.begun.items ++ piece))))) (sym w.next-is ∙ c.in-Err.is)
+          (subst (λ r. MatchResult r (λ t. HasTaken form bytes piece t.0 t.1)
+          (IfRefused (IsRefusedAs form (bytes ++ piece) (length (w.in-Open.begun.items ++ piece))))) (sym w.next-is ∙ c.in-Err.is)
           w.take_piece-next.ensures))
       | in-Stopped w ↦ not_stopped state all w.in-Stopped.fail view w.in-Stopped.is
     ])

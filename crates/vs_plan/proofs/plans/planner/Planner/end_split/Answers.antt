@@ -40,7 +40,8 @@ returns-then-self-eq1-clause-next c = λ memory ended.
     planned_next p refused.new.self refused.result (ap (λ (q : Planner). q.target) refused.ensures.same)
     (ap (λ (q : Planner). q.request) refused.ensures.same) refused.ensures.planned
     (λ plan none space premise.
-    smallest_right c.requires.end says c.requires.divides c.requires.place (subst (λ n. c.args.base % n ≡ 0) bytes c.if-offset-ne0.false) c.if-self-eq1.true plan none
+    smallest_right c.requires.end says c.requires.divides c.requires.place (subst (λ n. c.args.base % n ≡ 0) bytes c.if-offset-ne0.false)
+    c.if-self-eq1.true plan none
     memory ended space premise)
 
 pub returns-clause-next : goal.returns-clause-next

@@ -31,7 +31,8 @@ returns-in-Some-first_apart g c =
     (subst (λ n. c.args.base % n ≡ 0) (c.bytes.ensures ∙ ap bytes_of c.at_level-size.ensures) c.if-offset-ne0.false)
     (ap (not_first c.args.base c.in-Leaf.phys) (sym c.at_level-size.ensures) ∙ sym c.not_first.ensures.is ∙ c.in_default-not_first.is)
     (g.W.FrameWords.words c.args.words.now) c.in-Some-first_apart.index
-    (subst (λ z. IsFirstApart c.args.word (g.W.FrameWords.words c.args.words.now) z c.in-Some-first_apart.index) c.at_level-size.ensures c.in-Some-first_apart.ensures.first)
+    (subst (λ z. IsFirstApart c.args.word (g.W.FrameWords.words c.args.words.now) z c.in-Some-first_apart.index) c.at_level-size.ensures
+    c.in-Some-first_apart.ensures.first)
     c.nothing-in-Some-first_apart.result c.nothing-in-Some-first_apart.ensures
 
 pub returns-then-self-highest_link : goal.returns-then-self-highest_link
@@ -39,7 +40,8 @@ returns-then-self-highest_link g c = λ memory ended there space premise.
     pinned_right c.requires.end (read_leaf c.args.self.now.level c.new.ensures c.read.ensures c.in-Leaf.is) c.requires.request
     (subst (λ n. c.args.base % n ≡ 0) (c.bytes.ensures ∙ ap bytes_of c.at_level-size.ensures) c.if-offset-ne0.false)
     (ap (not_first c.args.base c.in-Leaf.phys) (sym c.at_level-size.ensures) ∙ sym c.not_first.ensures.is ∙ c.in_default-not_first.is)
-    (omega (arith, c.highest_link.ensures.is, c.if-self-highest_link.true)) c.nothing-then-self-highest_link.result c.nothing-then-self-highest_link.ensures memory ended space premise
+    (omega (arith, c.highest_link.ensures.is, c.if-self-highest_link.true)) c.nothing-then-self-highest_link.result
+    c.nothing-then-self-highest_link.ensures memory ended space premise
 
 pub returns : goal.returns
 returns g c =
