@@ -90,12 +90,12 @@ abbrev pub explain_app : App
 explain_app =
     with_rule (with_rule (with_rule (with_rule (new_app (codes "explain")) json_option) all_option) (flag_option (codes "chain"))) file_argument
 
--- --steps NUMBER, from 1 to 2 ^ 32 - 1, and 1,000,000 where it is not given
+-- --steps NUMBER, from 1 to 2 ^ 32 - 1, and 8,000,000 where it is not given
 abbrev pub most_steps_option : Rule
 most_steps_option = record (new_rule (codes "steps")) {
   long = Some (codes "steps");
   parser = Some (parsers.Signed (pos 1) (pos 4294967295));
-  defaults = codes "1000000" ∷ [];
+  defaults = codes "8000000" ∷ [];
 }
 
 -- the command `order`, with its options and file

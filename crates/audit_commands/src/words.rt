@@ -127,7 +127,7 @@ fn most_steps<'a>(alloc: Global) -> Arg<'a>
     Arg::new(alloc, "steps")
         .long("steps")
         .value_parser(ValueParser::signed(1, 4_294_967_295))
-        .default_value("1000000")
+        .default_value("8000000")
         .help("The most steps of the search: 1 to 4294967295")
 }
 

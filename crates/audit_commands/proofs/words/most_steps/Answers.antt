@@ -13,7 +13,7 @@ returns c =
     let parsed_is = ap rule_of c.value_parser.ensures.others ∙ ap₂ (λ (r : Rule) p. record r { parser = p }) long_is parser_is in
     let global = λ (a : Arg). a.global in
     record {
-      rule = ap rule_of c.help.ensures ∙ ap rule_of c.default_value.ensures ∙ ap (λ (r : Rule). record r { defaults = codes "1000000" ∷ [] }) parsed_is;
+      rule = ap rule_of c.help.ensures ∙ ap rule_of c.default_value.ensures ∙ ap (λ (r : Rule). record r { defaults = codes "8000000" ∷ [] }) parsed_is;
       local = ap global c.help.ensures ∙ ap global c.default_value.ensures ∙ ap global c.value_parser.ensures.others ∙ ap global c.long.ensures
           ∙ c.new.ensures.optional.1;
     }
