@@ -18,42 +18,42 @@ use Rattle.nr_ring.proofs.LocalTails.{le_or_lt}
 use Rattle.nr_slots.specs.Updates.{Waiting}
 use Rattle.nr_node.specs.Calls.{answered}
 use Rattle.nr_node.specs.Spaces.{answer_at, space_of}
-use Rattle.nr_node.specs.inside.Told.{Told}
+use Rattle.nr_node.specs.inside.AppliedEntry.{AppliedEntry}
 use Rattle.nr_node.specs.inside.Replica.{IsKeptAt, IsReplica, ReplicaState, entries_told, most_kept}
 use Rattle.nr_node.proofs.Spaces.{space_after_one}
 
 -- one entry more is behind all that there are
-more_entries : (past : List LogEntry) (told : List Told) (t : Told)
+more_entries : (past : List LogEntry) (told : List AppliedEntry) (t : AppliedEntry)
     → past ++ entries_told (told ++ t ∷ []) ≡ (past ++ entries_told told) ++ t.entry ∷ []
 more_entries past told t =
-    ap (λ (l : List LogEntry). past ++ l) (map-append (λ (u : Told). u.entry) told (t ∷ []))
+    ap (λ (l : List LogEntry). past ++ l) (map-append (λ (u : AppliedEntry). u.entry) told (t ∷ []))
     ∙ sym (append_assoc past (entries_told told) (t.entry ∷ []))
 
 -- how many entries there are
-pub as_many : (past : List LogEntry) (told : List Told) → length (past ++ entries_told told) ≡ length past + length told
-as_many past told = length-append past (entries_told told) ∙ ap (λ (n : ℕ). length past + n) (length-map told (λ (u : Told). u.entry))
+pub as_many : (past : List LogEntry) (told : List AppliedEntry) → length (past ++ entries_told told) ≡ length past + length told
+as_many past told = length-append past (entries_told told) ∙ ap (λ (n : ℕ). length past + n) (length-map told (λ (u : AppliedEntry). u.entry))
 
 -- the entries before a place are those before it when there is one more
-take_of_more : (past : List LogEntry) (told : List Told) (t : Told) (place : ℕ) → place ≤ length past + length told
+take_of_more : (past : List LogEntry) (told : List AppliedEntry) (t : AppliedEntry) (place : ℕ) → place ≤ length past + length told
     → take place (past ++ entries_told (told ++ t ∷ [])) ≡ take place (past ++ entries_told told)
 take_of_more past told t place le =
     ap (take place) (more_entries past told t)
     ∙ take-append-le place (past ++ entries_told told) (t.entry ∷ []) (omega (arith, le, as_many past told))
 
-earlier : (told : List Told) (t u : Told) (place : ℕ) → place < length told → slice_get (told ++ t ∷ []) place ≡ Some u
+earlier : (told : List AppliedEntry) (t u : AppliedEntry) (place : ℕ) → place < length told → slice_get (told ++ t ∷ []) place ≡ Some u
     → slice_get told place ≡ Some u
 earlier told t u place lt e =
     slice_get-get_or told place u lt
     ∙ ap Some (sym (get_or-append told (t ∷ []) u place lt) ∙ get_or_from_slice_get (told ++ t ∷ []) place u u e)
 
 -- the last one is at the end
-last : (told : List Told) (t u : Told) (place : ℕ) → length told ≤ place → slice_get (told ++ t ∷ []) place ≡ Some u → (place ≡ length told) × (t ≡ u)
+last : (told : List AppliedEntry) (t u : AppliedEntry) (place : ℕ) → length told ≤ place → slice_get (told ++ t ∷ []) place ≡ Some u → (place ≡ length told) × (t ≡ u)
 last [] t u zero le e = (refl, cc)
 last [] t u (suc place) le e = absurd (omega (arith, slice_get_within (t ∷ []) (suc place) u e))
 last (x ∷ told) t u zero le e = absurd (omega arith)
 last (x ∷ told) t u (suc place) le e = let rest = last told t u place (omega arith) e in (omega (arith, rest.0), rest.1)
 
-pub one_more : (old new : PageTable) (base : ℕ) (past : List LogEntry) (told : List Told) (t : Told) (room more : ℕ)
+pub one_more : (old new : PageTable) (base : ℕ) (past : List LogEntry) (told : List AppliedEntry) (t : AppliedEntry) (room more : ℕ)
     → IsReplica old base past told room → IsTableStep old t.entry.op t.answer new
     → length told < most_kept → more ≡ room → IsReplica new base past (told ++ t ∷ []) more
 one_more old new base past told t room more is steps lt same_room =
@@ -79,14 +79,14 @@ one_more old new base past told t room more is steps lt same_room =
       tables = subst (λ n. n ≤ TABLES) limit is.tables;
       reserved = subst (λ n. most_kept ≤ n) (sym same_room) is.reserved;
     } where
-      before : (place : ℕ) (u : Told) → place < length told → slice_get (told ++ t ∷ []) place ≡ Some u
+      before : (place : ℕ) (u : AppliedEntry) → place < length told → slice_get (told ++ t ∷ []) place ≡ Some u
           → u.answer ≡ answer_at old.depth old.limit (past ++ entries_told (told ++ t ∷ [])) (base + place) u.entry.op
       before place u lt e =
           is.answers place u (earlier told t u place lt e)
           ∙ ap (λ es. (step old.depth old.limit (space_of old.depth old.limit es) u.entry.op).answer)
           (sym (take_of_more past told t (base + place) (omega (arith, is.base_is, lt))))
 
-      at_end : (place : ℕ) (u : Told) → length told ≤ place → slice_get (told ++ t ∷ []) place ≡ Some u
+      at_end : (place : ℕ) (u : AppliedEntry) → length told ≤ place → slice_get (told ++ t ∷ []) place ≡ Some u
           → t.answer ≡ (step old.depth old.limit (space_of old.depth old.limit (past ++ entries_told told)) t.entry.op).answer
           → u.answer ≡ answer_at old.depth old.limit (past ++ entries_told (told ++ t ∷ [])) (base + place) u.entry.op
       at_end place u le e answered =
@@ -96,11 +96,11 @@ one_more old new base past told t room more is steps lt same_room =
           take_of_more past told t (base + place) (omega (arith, is.base_is, here.0))
           ∙ ap (λ n. take n (past ++ entries_told told)) end
           ∙ take-length (past ++ entries_told told) in
-          let P : Told → Type 0 = λ v. v.answer ≡ answer_at old.depth old.limit (past ++ entries_told (told ++ t ∷ [])) (base + place) v.entry.op in
+          let P : AppliedEntry → Type 0 = λ v. v.answer ≡ answer_at old.depth old.limit (past ++ entries_told (told ++ t ∷ [])) (base + place) v.entry.op in
           subst P here.1 (answered ∙ ap (λ es. (step old.depth old.limit (space_of old.depth old.limit es) t.entry.op).answer) (sym all))
 
 -- what is kept no more is as it was
-pub none_kept : (table : PageTable) (base more : ℕ) (past : List LogEntry) (told : List Told) (room : ℕ) → IsReplica table base past told room
+pub none_kept : (table : PageTable) (base more : ℕ) (past : List LogEntry) (told : List AppliedEntry) (room : ℕ) → IsReplica table base past told room
     → more ≡ base + length told → more ≤ MOST_PLACES → IsReplica table more (past ++ entries_told told) [] room
 none_kept table base more past told room is counts low =
     let nothing : (past ++ entries_told told) ++ [] ≡ past ++ entries_told told = append-nil (past ++ entries_told told) in
@@ -116,7 +116,7 @@ none_kept table base more past told room is counts low =
     }
 
 -- what is kept of a place
-pub kept_at : (table : PageTable) (base : ℕ) (past : List LogEntry) (told : List Told) (room place : ℕ) (t : Told) (state : ReplicaState)
+pub kept_at : (table : PageTable) (base : ℕ) (past : List LogEntry) (told : List AppliedEntry) (room place : ℕ) (t : AppliedEntry) (state : ReplicaState)
     → IsReplica table base past told room
     → (record { depth = table.depth; tables = table.limit; base = base; entries = past ++ entries_told told }) ≡ state
     → base ≤ place → slice_get told (place - base) ≡ Some t → (IsKeptAt state place t) × (place < 2 ^ 63)
@@ -130,8 +130,8 @@ kept_at table base past told room place t state is same above there =
       below = omega (arith, as_many past told, is.base_is, within);
       stands = ap (slice_get (past ++ entries_told told)) (sym behind)
           ∙ get_right past (entries_told told) (place - base)
-          ∙ slice_get-map (λ (u : Told). u.entry) told (place - base)
-          ∙ ap (option_map (λ (u : Told). u.entry)) there;
+          ∙ slice_get-map (λ (u : AppliedEntry). u.entry) told (place - base)
+          ∙ ap (option_map (λ (u : AppliedEntry). u.entry)) there;
       answered = is.answers (place - base) t there
           ∙ ap (λ (n : ℕ). answer_at table.depth table.limit (past ++ entries_told told) n t.entry.op) at;
     } in

@@ -7,7 +7,7 @@ use Rattle.vs_types.specs.declared.requests.answer.Answer.TheVariants.{Done, Ove
 use Rattle.vs_types.specs.declared.addresses.page.Rights.{Rights}
 use Rattle.vs_types.specs.declared.addresses.page.Size.{Size}
 use Rattle.vs_types.specs.declared.addresses.page.Size.TheVariants.{K4, M2, G1}
-use Rattle.nr_node.specs.inside.Told.{answer_in, answer_of, codes_of, field_codes, number_of}
+use Rattle.nr_node.specs.inside.AppliedEntry.{answer_in, answer_of, codes_of, field_codes, number_of}
 
 pub fault_above : (kind number : ℕ) (size : Size) (rights : Rights) → 9 ≤ kind → Fault number ≡ answer_of kind number size rights
 unfolding answer_of

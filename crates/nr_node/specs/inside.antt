@@ -1,4 +1,4 @@
 -- Loop invariants and the insides of models: no public clause cites them.
 pub mod Replica
-pub mod Told
+pub mod AppliedEntry
 pub mod Node

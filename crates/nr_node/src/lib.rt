@@ -3,6 +3,7 @@
 //! Places and tails count entries of the log from 0. Addresses are in bytes.
 #![tactic(auto)]
 
+mod applied_entry;
 mod batch;
 mod held;
 pub mod laws;
@@ -10,7 +11,6 @@ mod node;
 mod past;
 mod replica;
 mod seen;
-mod told;
 
 pub use held::Held;
 pub use node::Node;

@@ -18,9 +18,9 @@ ghost use Rattle.nr_node.specs.Node.{StandFrom};
 ghost use Rattle.nr_node.specs.Spaces.{answer_at, space_of};
 ghost use Rattle.nr_node.specs.inside.Replica.{IsKeptAt, most_kept};
 
+use crate::applied_entry::AppliedEntry;
 use crate::laws::{counts_tables, is_small};
 use crate::past::Past;
-use crate::told::Told;
 use arrayvec::ArrayVec;
 use nr_ring::{LogName, LogPass, PackedEntry};
 use nr_slots::{Answered, SlotRule, Slots, Waiting};
@@ -40,7 +40,7 @@ const MOST_KEPT: usize = LOG_PLACES as usize + 2 * RING;
 pub(crate) struct Replica<S: FrameStore, J: LogName> {
     space: Space<S>,
     past: Past<J>,
-    told: Vec<Told>,
+    told: Vec<AppliedEntry>,
     alloc: Global,
 }
 
@@ -136,7 +136,7 @@ impl<S: FrameStore, J: LogName> Replica<S, J> {
     {
         let LogEntry { op, .. } = entry.entry();
         let answer = self.space.apply(op);
-        self.told.push_reserved(Told::new(entry, answer));
+        self.told.push_reserved(AppliedEntry::new(entry, answer));
         answer
     }
 
@@ -247,7 +247,7 @@ impl<S: FrameStore, J: LogName> Replica<S, J> {
 
     /// What is kept of the entry at a place; `None` where it is kept no more, or the place is not below the number of entries.
     #[inline(always)]
-    fn kept(&self, place: u64) -> Option<&Told>
+    fn kept(&self, place: u64) -> Option<&AppliedEntry>
         ensures kept { MatchOption result
             ((place < self.now.base) ⊎ (length self.now.entries ≤ place)) (λ told.
             IsKeptAt self.now place told.now) }

@@ -31,8 +31,8 @@ use Rattle.nr_serve.specs.inside.Calls.{AreServed, IsServed, IsTrueOf, MadeCall,
 use Rattle.nr_serve.specs.SegmentRun.{HasSeenAnswersFrom}
 use Rattle.nr_serve.specs.Run.{AreCallsOf, HasAllOrStopped, HasSeenAnswers, StopsLast, asked_by, calls_of, said_of}
 use Rattle.nr_serve.specs.inside.Ending.{pens_of}
-use Rattle.nr_serve.specs.declared.endings.said.Said.{Said}
-use Rattle.nr_serve.specs.declared.endings.said.Said.TheVariants.{Answer, Stopped}
+use Rattle.nr_serve.specs.declared.endings.call_outcome.CallOutcome.{CallOutcome}
+use Rattle.nr_serve.specs.declared.endings.call_outcome.CallOutcome.TheVariants.{Answer, Stopped}
 use Rattle.nr_serve.proofs.Notes.{AreNoted, answers_are, made_calls, note_is_call, numbers, response, rise_numbers, spoken, stamps}
 use Rattle.nr_serve.proofs.Numbers.{passes_below}
 
@@ -143,14 +143,14 @@ map_both f g (c ∷ cs) all =
     ap (λ y. y ∷ map f (numbers cs)) (All-head (λ (d : MadeCall). f d.number ≡ g d) c cs all)
     ∙ ap (λ ys. g c ∷ ys) (map_both f g cs (All-tail (λ (d : MadeCall). f d.number ≡ g d) c cs all))
 
-said_back : (number : ℕ) (said : Said) → option_map_or (λ reply. Answer reply.at reply.answer) (response number said) Stopped ≡ said
+said_back : (number : ℕ) (said : CallOutcome) → option_map_or (λ reply. Answer reply.at reply.answer) (response number said) Stopped ≡ said
 said_back number (Answer at answer) = refl
 said_back number Stopped = refl
 
 -- the calls of each thread are those that it made, and its answers theirs
 pub are_calls : (clock : ClockId) (of : Since) (scripts : List (List Query)) (workers : List WorkerState) (trace : Recording)
     → AreServed clock of scripts workers → AreEventsOf trace.events (pens_of workers) → trace.layout ≡ clock.layout
-    → (thread : ℕ) (script : List Query) (said : List Said) → slice_get scripts thread ≡ Some script
+    → (thread : ℕ) (script : List Query) (said : List CallOutcome) → slice_get scripts thread ≡ Some script
     → slice_get (map (λ w. w.said) workers) thread ≡ Some said → AreCallsOf trace thread script said
 are_calls clock of scripts workers trace all are layout thread script said at_script at_said =
     let there = slice_get-unmap (λ (w : WorkerState). w.said) workers thread said at_said in
@@ -176,8 +176,8 @@ are_calls clock of scripts workers trace all are layout thread script said at_sc
           ap (λ o. option_map_or (λ (reply : Response). Answer reply.at reply.answer) o Stopped)
           (answers_are trace.events clock.layout thread calls noted k d lt)
           ∙ said_back (get_or calls k d).number (get_or calls k d).said));
-      stops_last = subst (λ (s : List Said). StopsLast s) there.2 served.stops_last;
-      to_the_end = subst (λ (s : List Said). HasAllOrStopped script s) there.2 served.to_the_end;
+      stops_last = subst (λ (s : List CallOutcome). StopsLast s) there.2 served.stops_last;
+      to_the_end = subst (λ (s : List CallOutcome). HasAllOrStopped script s) there.2 served.to_the_end;
     }
 
 call_of_number : (calls : List MadeCall) (n : ℕ) → Contains (numbers calls) n → (c : MadeCall) × Contains calls c × (c.number ≡ n)
@@ -190,7 +190,7 @@ call_of_number (c ∷ cs) n has = at has.0 has.1 has.2 (λ rest. call_of_number 
       let rest = more (k, omega arith, is) in (rest.0, (suc rest.1.0, omega (arith, rest.1.1), rest.1.2), rest.2)
 
 -- where what came of a call is true of a log, an answered update is at its place
-stands : (layout : Layout) (from : ℕ) (log : Log) (number : ℕ) (request : Query) (said : Said) → IsTrueOf layout from log number request said
+stands : (layout : Layout) (from : ℕ) (log : Log) (number : ℕ) (request : Query) (said : CallOutcome) → IsTrueOf layout from log number request said
     → (action : Action) (reply : Response) → operation_in request ≡ Some action → response number said ≡ Some reply
     → slice_get log.entries (from + reply.at) ≡ Some (record { call = number; op = action })
 stands layout from log number (Update act) (Answer at answer) is action reply op rep =
@@ -202,7 +202,7 @@ stands layout from log number (Update act) (Answer at answer) is action reply op
 stands layout from log number _ _ is action reply op rep = absurd cc
 
 -- and an answered read saw no more entries than there are
-known : (layout : Layout) (from : ℕ) (log : Log) (number : ℕ) (request : Query) (said : Said) → IsTrueOf layout from log number request said
+known : (layout : Layout) (from : ℕ) (log : Log) (number : ℕ) (request : Query) (said : CallOutcome) → IsTrueOf layout from log number request said
     → (reply : Response) → IsSome (read_address request) → response number said ≡ Some reply → from + reply.at ≤ length log.entries
 known layout from log number (Update act) said is reply read rep = absurd (false≢true read)
 known layout from log number _ Stopped is reply read rep = absurd cc
@@ -214,7 +214,7 @@ known layout from log number _ (Answer at answer) is reply read rep =
 -- a call of the thread, with what is known of it
 record IsKnownCall (trace : Recording) (layout : Layout) (from : ℕ) (log : Log) (thread call : ℕ) : Type 0 where
   request : Query
-  said : Said
+  said : CallOutcome
   asked : slice_get trace.events call ≡ Some (call_by layout thread request)
   replied : reply_to trace call ≡ response call said
   is_true : IsTrueOf layout from log call request said

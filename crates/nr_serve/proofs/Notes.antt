@@ -22,8 +22,8 @@ use Rattle.nr_record.specs.Pen.{call_by, stamped}
 use Rattle.nr_record.specs.Stamps.{Rise}
 use Rattle.nr_record.specs.declared.stamped.Stamped.{Stamped}
 use Rattle.nr_serve.specs.inside.Calls.{MadeCall, notes_of, reply_notes}
-use Rattle.nr_serve.specs.declared.endings.said.Said.{Said}
-use Rattle.nr_serve.specs.declared.endings.said.Said.TheVariants.{Answer, Stopped}
+use Rattle.nr_serve.specs.declared.endings.call_outcome.CallOutcome.{CallOutcome}
+use Rattle.nr_serve.specs.declared.endings.call_outcome.CallOutcome.TheVariants.{Answer, Stopped}
 use Rattle.nr_trace.proofs.LawsOfLists.{All-unmap}
 
 abbrev pub stamps : List Stamped → List ℕ
@@ -40,11 +40,11 @@ notes_cons : (layout : Layout) (thread : ℕ) (c : MadeCall) (cs : List MadeCall
     ≡ stamped c.number (call_by layout thread c.request) ∷ (reply_notes c.number c.replied c.said ++ notes layout thread cs)
 notes_cons layout thread c cs = flat_map-cons (notes_of layout thread) c cs
 
-rest_rises : (number replied : ℕ) (said : Said) (xs : List Stamped) → Rise (stamps (reply_notes number replied said ++ xs)) → Rise (stamps xs)
+rest_rises : (number replied : ℕ) (said : CallOutcome) (xs : List Stamped) → Rise (stamps (reply_notes number replied said ++ xs)) → Rise (stamps xs)
 rest_rises number replied (Answer at answer) xs rise = rise.1
 rest_rises number replied Stopped xs rise = rise
 
-rest_notes : (P : Stamped → Type 0) (number replied : ℕ) (said : Said) (xs : List Stamped) → All P (reply_notes number replied said ++ xs) → All P xs
+rest_notes : (P : Stamped → Type 0) (number replied : ℕ) (said : CallOutcome) (xs : List Stamped) → All P (reply_notes number replied said ++ xs) → All P xs
 rest_notes P number replied (Answer at answer) xs all = All-tail P (stamped replied (Reply number at answer)) xs all
 rest_notes P number replied Stopped xs all = all
 
@@ -83,7 +83,7 @@ not_reply number at answer who e = cc
 in_call : (layout : Layout) (thread : ℕ) (c : MadeCall) (item : Stamped) (who : ℕ) → Contains (notes_of layout thread c) item → caller item.event ≡ Some who
     → (who ≡ thread) × (c.number ≡ item.stamp)
 in_call layout thread c item who has is = at has.0 has.1 has.2 where
-  second : (said : Said) (k : ℕ) → k < length (reply_notes c.number c.replied said) → get_or (reply_notes c.number c.replied said) k item ≡ item → ⊥
+  second : (said : CallOutcome) (k : ℕ) → k < length (reply_notes c.number c.replied said) → get_or (reply_notes c.number c.replied said) k item ≡ item → ⊥
   second (Answer at answer) zero lt same =
       not_reply c.number at answer who (ap (λ (s : Stamped). caller s.event) same ∙ is)
   second (Answer at answer) (suc k) lt same = absurd (omega arith)
@@ -108,7 +108,7 @@ note_is_call layout thread (c ∷ cs) item who has is =
     (subst (λ (xs : List Stamped). Contains xs item) (flat_map-cons (notes_of layout thread) c cs) has))
 
 -- what a reply to the call says
-abbrev pub response : ℕ → Said → Option Response
+abbrev pub response : ℕ → CallOutcome → Option Response
 response number (Answer at answer) = Some (record { call = number; at = at; answer = answer })
 response number Stopped = None
 
@@ -158,7 +158,7 @@ others_silent events layout thread number request at (Reply call place answer) f
     (λ differ. other_call number call place answer differ)
 others_silent events layout thread number request at _ fails = refl
 
-skip_reply : (n number replied : ℕ) (said : Said) (xs : List Stamped) → (number ≡ n → ⊥)
+skip_reply : (n number replied : ℕ) (said : CallOutcome) (xs : List Stamped) → (number ≡ n → ⊥)
     → filter_map (answering n) (spoken (reply_notes number replied said ++ xs)) ≡ filter_map (answering n) (spoken xs)
 skip_reply n number replied (Answer at answer) xs differ =
     ap (λ o. cons_option o (filter_map (answering n) (spoken xs))) (other_call n number at answer differ)
@@ -177,7 +177,7 @@ none_answers n layout thread (c ∷ cs) differ =
     skip_call n layout thread c cs (All-head (λ (m : ℕ). m ≡ n → ⊥) c.number (numbers cs) differ)
     ∙ none_answers n layout thread cs (All-tail (λ (m : ℕ). m ≡ n → ⊥) c.number (numbers cs) differ)
 
-own_reply : (number replied : ℕ) (said : Said) (xs : List Stamped) → filter_map (answering number) (spoken xs) ≡ []
+own_reply : (number replied : ℕ) (said : CallOutcome) (xs : List Stamped) → filter_map (answering number) (spoken xs) ≡ []
     → slice_get (filter_map (answering number) (spoken (reply_notes number replied said ++ xs))) 0 ≡ response number said
 own_reply number replied (Answer at answer) xs none =
     ap (λ o. slice_get (cons_option o (filter_map (answering number) (spoken xs))) 0) (own_call number at answer)

@@ -37,8 +37,8 @@ use Rattle.nr_serve.specs.Run.{AreAllCallsOf, HasAllOrStopped}
 use Rattle.nr_serve.specs.RunState.{RunState, new_run}
 use Rattle.nr_serve.specs.ChainOfRun.{HasEnded, HasFailed, HasGone, IsOutcomeOf, ran_of}
 use Rattle.nr_serve.specs.SegmentRun.{layout_so_far, AreAllAnswered, HasSeenMore, HaveSeenAnswersFrom, IsAnswer, IsRightSegment, IsSegmentOf}
-use Rattle.nr_serve.specs.declared.endings.said.Said.{Said}
-use Rattle.nr_serve.specs.declared.endings.said.Said.TheVariants.{Stopped}
+use Rattle.nr_serve.specs.declared.endings.call_outcome.CallOutcome.{CallOutcome}
+use Rattle.nr_serve.specs.declared.endings.call_outcome.CallOutcome.TheVariants.{Stopped}
 use Rattle.nr_serve.specs.declared.endings.segment_outcome.SegmentOutcome.{SegmentOutcome}
 use Rattle.nr_serve.specs.inside.Calls.{Since, WorkerState, since}
 use Rattle.nr_serve.specs.inside.Segment.{HaveServed, state_of, state_with}
@@ -86,16 +86,16 @@ fitting_frames depth tables base log dumps are = λ k d lt.
 pub still_fits : (past : Option Past) (layout own : Layout) → IfSome past (FitsPast layout) → own ≡ layout → IfSome past (FitsPast own)
 still_fits past layout own fits is = subst (λ (l : Layout). IfSome past (FitsPast l)) (sym is) fits
 
-not_the_last : (front : List Said) → All IsAnswer (front ++ Stopped ∷ []) → ⊥
+not_the_last : (front : List CallOutcome) → All IsAnswer (front ++ Stopped ∷ []) → ⊥
 not_the_last [] all = all 0 Stopped (omega arith)
 not_the_last (item ∷ front) all = not_the_last front (All-tail IsAnswer item (front ++ Stopped ∷ []) all)
 
-to_the_end : (script : List Query) (items : List Said) → HasAllOrStopped script items → All IsAnswer items → length items ≡ length script
+to_the_end : (script : List Query) (items : List CallOutcome) → HasAllOrStopped script items → All IsAnswer items → length items ≡ length script
 to_the_end script items (inl same) all = same
 to_the_end script items (inr stopped) all = absurd (not_the_last stopped.0 (subst (All IsAnswer) stopped.1 all))
 
 -- where no item says that its call was stopped, all was asked and answered
-are_all_answered : (trace : Recording) (scripts : List (List Query)) (answers : List (List Said)) → AreAllCallsOf trace scripts answers
+are_all_answered : (trace : Recording) (scripts : List (List Query)) (answers : List (List CallOutcome)) → AreAllCallsOf trace scripts answers
     → All (All IsAnswer) answers → AreAllAnswered scripts answers
 are_all_answered trace scripts answers calls all thread script items at_script at_items =
     let answered = all_at (All IsAnswer) answers thread items all at_items in
@@ -107,7 +107,7 @@ all_unmapped P f ys all = λ k d lt.
     subst P (get_or-map f ys k d (f d) lt) (all k (f d) (omega (arith, lt, length-map ys f)))
 
 -- where all was asked and answered, no item says that its call was stopped
-none_stopped : (scripts : List (List Query)) (answers : List (List Said)) → length answers ≡ length scripts → AreAllAnswered scripts answers
+none_stopped : (scripts : List (List Query)) (answers : List (List CallOutcome)) → length answers ≡ length scripts → AreAllAnswered scripts answers
     → All (All IsAnswer) answers
 none_stopped scripts answers each all = λ k items lt.
     let its = item_of scripts k (omega (arith, lt, each)) in
@@ -117,7 +117,7 @@ none_stopped scripts answers each all = λ k items lt.
 
 -- what is known of a segment that was written, with the history of its log
 pub record IsMade (clock : ClockId) (of : Since) (layout : Layout) (past : Option Past) (before : List Known) (scripts : List (List Query))
-    (pens : List PenState) (passes : List Known) (answers : List (List Said)) (trace : Recording) (bytes : List ℕ) (history : List LogEvent) : Type 0 where
+    (pens : List PenState) (passes : List Known) (answers : List (List CallOutcome)) (trace : Recording) (bytes : List ℕ) (history : List LogEvent) : Type 0 where
   pub of_clock : layout ≡ clock.layout
   pub served : HaveServed clock of before scripts pens passes answers
   pub laid : trace.layout ≡ layout
@@ -130,7 +130,7 @@ pub record IsMade (clock : ClockId) (of : Since) (layout : Layout) (past : Optio
 
 -- a segment is made of what the threads handed back, and of the log from the last cut on
 pub made_segment : (depth : Depth) (replicas : ℕ) (clock : ClockId) (of : Since) (replicated layout : Layout) (past : Option Past) (before : List Known)
-    (scripts : List (List Query)) (pens : List PenState) (passes : List Known) (answers : List (List Said)) (trace : Recording) (bytes : List ℕ)
+    (scripts : List (List Query)) (pens : List PenState) (passes : List Known) (answers : List (List CallOutcome)) (trace : Recording) (bytes : List ℕ)
     (history : List LogEvent) (calls : List ℕ) → MayEnd depth replicas clock of replicated layout past pens passes
     → HaveServed clock of before scripts pens passes answers → trace.layout ≡ layout → AreEventsOf trace.events pens → trace.log ≡ calls
     → SpellsSegment (layout_so_far (state_with of before layout past).kept) bytes trace → IsLogHistory depth replicas history
@@ -154,27 +154,27 @@ made_segment depth replicas clock of replicated layout past before scripts pens 
 
 -- what comes of a segment whose threads had seen this before, and were given these scripts
 pub comes_of : {J E : Type 0} (result : Result (SegmentOutcome J) E) (clock : ClockId) (of : Since) (layout : Layout) (past : Option Past)
-    (pens : List PenState) (passes : List Known) (answers : List (List Said)) (before : List Known) (scripts : List (List Query))
+    (pens : List PenState) (passes : List Known) (answers : List (List CallOutcome)) (before : List Known) (scripts : List (List Query))
     → IfOk result (IsEndOf clock of layout past pens passes answers) → HaveServed clock of before scripts pens passes answers
     → IfOk result (IsOutcomeOf (state_with of before layout past) scripts)
 comes_of (Ok outcome) clock of layout past pens passes answers before scripts ends served = ends before scripts served
 comes_of (Err fault) clock of layout past pens passes answers before scripts ends served = tt
 
 -- what is shown of a segment is what it has
-pub gone_as : (state : RunState) (scripts : List (List Query)) (answers shown : List (List Said)) (bytes written order : List ℕ) (next run : RunState)
+pub gone_as : (state : RunState) (scripts : List (List Query)) (answers shown : List (List CallOutcome)) (bytes written order : List ℕ) (next run : RunState)
     → shown ≡ answers → written ≡ bytes → run ≡ next → HasGone state scripts answers bytes order next → HasGone state scripts shown written order run
 gone_as state scripts answers shown bytes written order next run of_shown of_written of_run gone =
     subst (λ (r : RunState). HasGone state scripts shown written order r) (sym of_run)
     (subst (λ (b : List ℕ). HasGone state scripts shown b order next) (sym of_written)
-    (subst (λ (a : List (List Said)). HasGone state scripts a bytes order next) (sym of_shown) gone))
+    (subst (λ (a : List (List CallOutcome)). HasGone state scripts a bytes order next) (sym of_shown) gone))
 
-pub ended_as : (state : RunState) (scripts : List (List Query)) (answers shown : List (List Said)) (bytes written order : List ℕ) (passes seen : List Known)
+pub ended_as : (state : RunState) (scripts : List (List Query)) (answers shown : List (List CallOutcome)) (bytes written order : List ℕ) (passes seen : List Known)
     → shown ≡ answers → written ≡ bytes → seen ≡ passes → HasEnded state scripts answers bytes order passes
     → HasEnded state scripts shown written order seen
 ended_as state scripts answers shown bytes written order passes seen of_shown of_written of_seen ended =
     subst (λ (p : List Known). HasEnded state scripts shown written order p) (sym of_seen)
     (subst (λ (b : List ℕ). HasEnded state scripts shown b order passes) (sym of_written)
-    (subst (λ (a : List (List Said)). HasEnded state scripts a bytes order passes) (sym of_shown) ended))
+    (subst (λ (a : List (List CallOutcome)). HasEnded state scripts a bytes order passes) (sym of_shown) ended))
 
 pub failed_as : (state : RunState) (scripts : List (List Query)) (bytes written : List ℕ) (fault : Fault) → written ≡ bytes
     → HasFailed state scripts bytes fault → HasFailed state scripts written fault
@@ -199,7 +199,7 @@ pub fits_after : (layout own : Layout) (after : Past) → FitsPast own after →
 fits_after layout own after fits laid = subst (λ (l : Layout). FitsPast l after) laid fits
 
 module _ (clock : ClockId) (of : Since) (layout : Layout) (past : Option Past) (before : List Known) (scripts : List (List Query))
-    (pens : List PenState) (passes : List Known) (answers : List (List Said)) (trace : Recording) (bytes : List ℕ) (history : List LogEvent)
+    (pens : List PenState) (passes : List Known) (answers : List (List CallOutcome)) (trace : Recording) (bytes : List ℕ) (history : List LogEvent)
     (made : IsMade clock of layout past before scripts pens passes answers trace bytes history) where
   abbrev state : RunState
   state = state_with of before layout past
@@ -217,8 +217,8 @@ module _ (clock : ClockId) (of : Since) (layout : Layout) (past : Option Past) (
       record {
         spelled = made.spelled;
         layout_is = made.laid;
-        answers_each = ap (λ (a : List (List Said)). length a) made.served.answers_are ∙ length-map workers (λ (w : WorkerState). w.said) ∙ threads;
-        calls = subst (λ (a : List (List Said)). AreAllCallsOf trace scripts a) (sym made.served.answers_are)
+        answers_each = ap (λ (a : List (List CallOutcome)). length a) made.served.answers_are ∙ length-map workers (λ (w : WorkerState). w.said) ∙ threads;
+        calls = subst (λ (a : List (List CallOutcome)). AreAllCallsOf trace scripts a) (sym made.served.answers_are)
             (are_calls clock of scripts workers trace made.served.served recorded same);
         heard = subst (λ (p : List Known). AllZip HasSeenMore before p) (sym made.served.passes_are) made.served.heard;
         log = record {
@@ -252,7 +252,7 @@ module _ (clock : ClockId) (of : Since) (layout : Layout) (past : Option Past) (
       → (All (All IsAnswer) answers → ⊥) → HasEnded state scripts answers bytes order passes
   has_ended order sound is stopped =
       let each : length answers ≡ length scripts =
-      ap (λ (a : List (List Said)). length a) made.served.answers_are ∙ length-map workers (λ (w : WorkerState). w.said)
+      ap (λ (a : List (List CallOutcome)). length a) made.served.answers_are ∙ length-map workers (λ (w : WorkerState). w.said)
       ∙ made.served.served.one_each in
       record {
         trace = trace;

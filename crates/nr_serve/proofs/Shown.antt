@@ -20,7 +20,7 @@ use Rattle.nr_record.specs.Pen.{ClockId, PenState}
 use Rattle.nr_serve.specs.Run.{AreAllCallsOf, HaveSeenAnswers, IfRunRefused, IfVerified, IsLogOf, IsRefusedRun, IsTraceOf, IsVerifiedRun}
 use Rattle.nr_serve.specs.declared.endings.outcome.Outcome.{Outcome}
 use Rattle.nr_serve.specs.declared.endings.outcome.Outcome.TheVariants.{Refused, Verified}
-use Rattle.nr_serve.specs.declared.endings.said.Said.{Said}
+use Rattle.nr_serve.specs.declared.endings.call_outcome.CallOutcome.{CallOutcome}
 use Rattle.nr_serve.specs.inside.Calls.{AreServed, WorkerState, since}
 use Rattle.nr_serve.specs.inside.Ending.{IsWrittenOf, answers_of, passes_of, pens_of}
 use Rattle.nr_serve.proofs.Made.{are_calls, have_seen}
@@ -51,7 +51,7 @@ trace_of_run clock log layout scripts workers pens passes bytes of_clock one_eac
     }
 
 -- what a run has to show whose bytes are found right
-pub verified_with : {J E : Type 0} (r : Result (Outcome J) E) (layout : Layout) (scripts : List (List Query)) (shown answers : List (List Said))
+pub verified_with : {J E : Type 0} (r : Result (Outcome J) E) (layout : Layout) (scripts : List (List Query)) (shown answers : List (List CallOutcome))
     (bytes : List ℕ) (back passes : List Known) → shown ≡ answers → back ≡ passes → IfOk r (IfVerified (λ a t o p. a ≡ shown))
     → IfOk r (IfVerified (λ a t o p. t ≡ bytes)) → IfOk r (IfVerified (λ a t o p. p ≡ back)) → IfOk r (IfVerified (λ a t o p. IsVerdictOf t (Yes o)))
     → IfOk r (IfVerified (λ a t o p. AreRightWith t o)) → IsTraceOf layout scripts answers passes bytes
@@ -62,7 +62,7 @@ verified_with (Ok (Verified a t o p)) layout scripts shown answers bytes back pa
     let written = subst (λ (x : List ℕ). IsTraceOf layout scripts answers passes x) (sym same_bytes) is in
     let passed = subst (λ (x : List Known). IsTraceOf layout scripts answers x t) (sym (same_passes ∙ of_back)) written in
     record {
-      trace_of = subst (λ (x : List (List Said)). IsTraceOf layout scripts x p t) (sym (same_answers ∙ of_shown)) passed;
+      trace_of = subst (λ (x : List (List CallOutcome)). IsTraceOf layout scripts x p t) (sym (same_answers ∙ of_shown)) passed;
       faultless = spelled_with t trace IsFaultless spelled verdict.2;
       order_is = spelled_with t trace (λ trace. o ≡ recorded_order trace) spelled verdict.3;
       right = right;
@@ -70,7 +70,7 @@ verified_with (Ok (Verified a t o p)) layout scripts shown answers bytes back pa
 verified_with _ layout scripts shown answers bytes back passes of_shown of_back same_answers same_bytes same_passes verdict right is = tt
 
 -- and whose bytes are refused
-pub refused_with : {J E : Type 0} (r : Result (Outcome J) E) (layout : Layout) (scripts : List (List Query)) (answers : List (List Said))
+pub refused_with : {J E : Type 0} (r : Result (Outcome J) E) (layout : Layout) (scripts : List (List Query)) (answers : List (List CallOutcome))
     (bytes : List ℕ) (passes : List Known) → IfOk r (IfRunRefused (λ t f. t ≡ bytes)) → IfOk r (IfRunRefused IsFirstOf)
     → IsTraceOf layout scripts answers passes bytes → IfOk r (IfRunRefused (IsRefusedRun layout scripts))
 refused_with (Ok (Refused t f)) layout scripts answers bytes passes same_bytes first is = record {

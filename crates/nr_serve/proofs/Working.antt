@@ -25,8 +25,8 @@ use Rattle.nr_replicas.proofs.Hearing.{heard_on}
 use Rattle.nr_replicas.proofs.Logs.{answer_stays, read_stays}
 use Rattle.nr_serve.specs.Run.{StopsLast}
 use Rattle.nr_serve.specs.inside.Calls.{IsServed, IsTrueAt, IsTrueOf, MadeCall, Since, notes_of}
-use Rattle.nr_serve.specs.declared.endings.said.Said.{Said}
-use Rattle.nr_serve.specs.declared.endings.said.Said.TheVariants.{Answer, Stopped}
+use Rattle.nr_serve.specs.declared.endings.call_outcome.CallOutcome.{CallOutcome}
+use Rattle.nr_serve.specs.declared.endings.call_outcome.CallOutcome.TheVariants.{Answer, Stopped}
 use Rattle.nr_serve.specs.SegmentRun.{IsAnswer}
 use Rattle.nr_serve.specs.inside.Working.{HasCalled, IsNamed, IsReady, IsUnderWay}
 
@@ -41,14 +41,14 @@ true_at_stays layout p q number (Resolve address) place answer on is =
 true_at_stays layout p q number (Access address mode access) place answer on is =
     read_stays layout.depth layout.tables 0 p q (λ space. allow space address mode access) place answer on is
 
-pub true_stays : (layout : Layout) (from : ℕ) (p q : Log) (number : ℕ) (request : Query) (said : Said) → HasGoneOn p q
+pub true_stays : (layout : Layout) (from : ℕ) (p q : Log) (number : ℕ) (request : Query) (said : CallOutcome) → HasGoneOn p q
     → IsTrueOf layout from p number request said → IsTrueOf layout from q number request said
 true_stays layout from p q number request Stopped on is = tt
 true_stays layout from p q number request (Answer at answer) on is = true_at_stays layout p q number request (from + at) answer on is
 
 -- ---- the items
 
-pub stops_last_push : (said : List Said) (item : Said) → All IsAnswer said → StopsLast (said ++ item ∷ [])
+pub stops_last_push : (said : List CallOutcome) (item : CallOutcome) → All IsAnswer said → StopsLast (said ++ item ∷ [])
 stops_last_push said item answered index is =
     let long = length-append said (item ∷ []) in
     let within = slice_get_within (said ++ item ∷ []) index Stopped is in
@@ -57,7 +57,7 @@ stops_last_push said item answered index is =
     subst IsAnswer (sym (get_or-append said (item ∷ []) Stopped index lt) ∙ here) (answered index Stopped lt) in
     omega (arith, long, within, not_before)
 
-pub stops_last_none : (said : List Said) → All IsAnswer said → StopsLast said
+pub stops_last_none : (said : List CallOutcome) → All IsAnswer said → StopsLast said
 stops_last_none said answered index is =
     absurd (subst IsAnswer (get_or_from_slice_get said index Stopped Stopped is) (answered index Stopped (slice_get_within said index Stopped is)))
 
@@ -88,14 +88,14 @@ begins clock of thread script pen pass ready history = record {
 }
 
 -- how many calls there are among the notes of one
-one_call : (layout : Layout) (thread : ℕ) (request : Query) (number replied : ℕ) (said : Said)
+one_call : (layout : Layout) (thread : ℕ) (request : Query) (number replied : ℕ) (said : CallOutcome)
     → calls_in (notes_of layout thread (record { request = request; number = number; said = said; replied = replied })) ≡ 1
 one_call layout thread request number replied (Answer at answer) = refl
 one_call layout thread request number replied Stopped = refl
 
 -- the next request is called
 pub record IsNext (clock : ClockId) (of : Since) (thread : ℕ) (script : List Query) (done : ℕ) (request : Query) (pen pen' : PenState) (pass pass' : Known)
-    (said : List Said) (item : Said) : Type 0 where
+    (said : List CallOutcome) (item : CallOutcome) : Type 0 where
   pub under_way : IsUnderWay clock of thread script done pen pass said
   pub within : done < length script
   pub request_is : request ≡ get_or script done request
@@ -104,7 +104,7 @@ pub record IsNext (clock : ClockId) (of : Since) (thread : ℕ) (script : List Q
   pub called : HasCalled clock.layout of.from request pen pen' pass' item
 
 module _ (clock : ClockId) (of : Since) (thread : ℕ) (script : List Query) (done : ℕ) (request : Query) (pen pen' : PenState) (pass pass' : Known)
-    (said : List Said) (item : Said) (next : IsNext clock of thread script done request pen pen' pass pass' said item) where
+    (said : List CallOutcome) (item : CallOutcome) (next : IsNext clock of thread script done request pen pen' pass pass' said item) where
   abbrev call : MadeCall
   call = record { request = request; number = next.called.number; said = item; replied = next.called.replied }
 
@@ -126,7 +126,7 @@ module _ (clock : ClockId) (of : Since) (thread : ℕ) (script : List Query) (do
 
   said_more : said ++ item ∷ [] ≡ map (λ made. made.said) (old ++ call ∷ [])
   said_more =
-      ap (λ (l : List Said). l ++ item ∷ []) next.under_way.said_is
+      ap (λ (l : List CallOutcome). l ++ item ∷ []) next.under_way.said_is
       ∙ sym (map-append (λ (made : MadeCall). made.said) old (call ∷ []))
 
   notes_more : pen'.made ≡ flat_map notes (old ++ call ∷ [])
@@ -188,12 +188,12 @@ module _ (clock : ClockId) (of : Since) (thread : ℕ) (script : List Query) (do
     said = said_more;
     notes = notes_more;
     stops_last = stops_last_push said item next.under_way.answered;
-    to_the_end = inr (said, ap (λ (i : Said). said ++ i ∷ []) stopped);
+    to_the_end = inr (said, ap (λ (i : CallOutcome). said ++ i ∷ []) stopped);
     true_calls = true_more;
   }
 
 -- all requests were answered
-pub ends : (clock : ClockId) (of : Since) (thread : ℕ) (script : List Query) (done : ℕ) (pen : PenState) (pass : Known) (said : List Said)
+pub ends : (clock : ClockId) (of : Since) (thread : ℕ) (script : List Query) (done : ℕ) (pen : PenState) (pass : Known) (said : List CallOutcome)
     → IsUnderWay clock of thread script done pen pass said → done ≡ length script
     → IsServed clock of thread script (record { pen = pen; pass = pass; said = said })
 ends clock of thread script done pen pass said is all = record {
@@ -207,7 +207,7 @@ ends clock of thread script done pen pass said is all = record {
   said = is.said_is;
   notes = is.notes;
   stops_last = stops_last_none said is.answered;
-  to_the_end = inl (omega (arith, ap (λ (l : List Said). length l) is.said_is, length-map is.calls (λ (made : MadeCall). made.said), is.count, all));
+  to_the_end = inl (omega (arith, ap (λ (l : List CallOutcome). length l) is.said_is, length-map is.calls (λ (made : MadeCall). made.said), is.count, all));
   true_calls = is.true_calls;
 }
 

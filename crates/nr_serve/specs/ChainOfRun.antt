@@ -9,7 +9,7 @@ use Rattle.nr_ring.specs.Pass.{Known}
 use Rattle.nr_ring.specs.declared.ring.log_event.LogEvent.{LogEvent}
 use Rattle.nr_serve.specs.RunState.{RunState}
 use Rattle.nr_serve.specs.SegmentRun.{AreAllAnswered, GoesOn, IsRightSegment, IsWrongSegment, Ran}
-use Rattle.nr_serve.specs.declared.endings.said.Said.{Said}
+use Rattle.nr_serve.specs.declared.endings.call_outcome.CallOutcome.{CallOutcome}
 use Rattle.nr_serve.specs.declared.endings.segment_outcome.SegmentOutcome.{SegmentOutcome}
 use Rattle.nr_serve.specs.declared.endings.segment_outcome.SegmentOutcome.TheVariants.{Right, Last, Wrong}
 
@@ -34,11 +34,11 @@ RunsOn state bytes (segment ∷ more) end =
     × IsRightSegment state segment passes history × GoesOn state segment history next × RunsOn next rest more end
 
 -- a segment as it was run, of what is known of it one by one
-abbrev pub ran_of : Recording → List (List Query) → List (List Said) → List ℕ → List ℕ → Ran
+abbrev pub ran_of : Recording → List (List Query) → List (List CallOutcome) → List ℕ → List ℕ → Ran
 ran_of trace scripts answers bytes order = record { bytes = bytes; trace = trace; order = order; scripts = scripts; answers = answers }
 
 -- a segment is right, and the run goes on behind it
-pub record HasGone (state : RunState) (scripts : List (List Query)) (answers : List (List Said)) (bytes order : List ℕ) (next : RunState) : Type 0 where
+pub record HasGone (state : RunState) (scripts : List (List Query)) (answers : List (List CallOutcome)) (bytes order : List ℕ) (next : RunState) : Type 0 where
   pub trace : Recording
   pub passes : List Known
   pub history : List LogEvent
@@ -46,7 +46,7 @@ pub record HasGone (state : RunState) (scripts : List (List Query)) (answers : L
   pub on : GoesOn state (ran_of trace scripts answers bytes order) history next
 
 -- it is right, and the last, since not all that was asked is answered: this is what the passes have seen
-pub record HasEnded (state : RunState) (scripts : List (List Query)) (answers : List (List Said)) (bytes order : List ℕ) (passes : List Known) : Type 0 where
+pub record HasEnded (state : RunState) (scripts : List (List Query)) (answers : List (List CallOutcome)) (bytes order : List ℕ) (passes : List Known) : Type 0 where
   pub trace : Recording
   pub history : List LogEvent
   pub right : IsRightSegment state (ran_of trace scripts answers bytes order) passes history
@@ -55,7 +55,7 @@ pub record HasEnded (state : RunState) (scripts : List (List Query)) (answers : 
 -- it is wrong, for some answers
 pub record HasFailed (state : RunState) (scripts : List (List Query)) (bytes : List ℕ) (fault : Fault) : Type 0 where
   pub trace : Recording
-  pub answers : List (List Said)
+  pub answers : List (List CallOutcome)
   pub passes : List Known
   pub history : List LogEvent
   pub wrong : IsWrongSegment state (ran_of trace scripts answers bytes []) passes history fault

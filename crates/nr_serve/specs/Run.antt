@@ -19,8 +19,8 @@ use Rattle.nr_ring.specs.declared.ring.log_event.LogEvent.{LogEvent}
 use Rattle.nr_record.specs.Pen.{home_of}
 use Rattle.nr_serve.specs.declared.endings.outcome.Outcome.{Outcome}
 use Rattle.nr_serve.specs.declared.endings.outcome.Outcome.TheVariants.{Refused, Verified}
-use Rattle.nr_serve.specs.declared.endings.said.Said.{Said}
-use Rattle.nr_serve.specs.declared.endings.said.Said.TheVariants.{Answer, Stopped}
+use Rattle.nr_serve.specs.declared.endings.call_outcome.CallOutcome.{CallOutcome}
+use Rattle.nr_serve.specs.declared.endings.call_outcome.CallOutcome.TheVariants.{Answer, Stopped}
 
 -- the calls of a thread, in order
 abbrev pub calls_of : Recording → ℕ → List ℕ
@@ -31,20 +31,20 @@ abbrev pub asked_by : Layout → ℕ → Query → Invocation
 asked_by layout thread request = record { replica = home_of layout thread; thread = thread; asked = askeds.Request request }
 
 -- what came of a call: its reply's answer, and where it was reached; or it has none
-abbrev pub said_of : Recording → ℕ → Said
+abbrev pub said_of : Recording → ℕ → CallOutcome
 said_of trace call = option_map_or (λ reply. Answer reply.at reply.answer) (reply_to trace call) Stopped
 
 -- only the last call was stopped
-abbrev pub StopsLast : List Said → Type 0
+abbrev pub StopsLast : List CallOutcome → Type 0
 StopsLast said = (index : ℕ) → slice_get said index ≡ Some Stopped → index + 1 ≡ length said
 
 -- there is an item for every request, or the items end with a call that was stopped
-abbrev pub HasAllOrStopped : List Query → List Said → Type 0
-HasAllOrStopped script said = (length said ≡ length script) ⊎ ((front : List Said) × (said ≡ front ++ Stopped ∷ []))
+abbrev pub HasAllOrStopped : List Query → List CallOutcome → Type 0
+HasAllOrStopped script said = (length said ≡ length script) ⊎ ((front : List CallOutcome) × (said ≡ front ++ Stopped ∷ []))
 
 -- the thread's calls ask a beginning of its script, in order, at its replica. There is an item for each of them: where it was answered
 -- and how, or that it was stopped, which only the last was; and an item for every request, or the last was stopped
-pub record AreCallsOf (trace : Recording) (thread : ℕ) (script : List Query) (items : List Said) : Type 0 where
+pub record AreCallsOf (trace : Recording) (thread : ℕ) (script : List Query) (items : List CallOutcome) : Type 0 where
   pub asked : map (call_of trace) (calls_of trace thread)
       ≡ map (λ request. Some (asked_by trace.layout thread request)) (take (length (calls_of trace thread)) script)
   pub said : items ≡ map (said_of trace) (calls_of trace thread)
@@ -70,8 +70,8 @@ pub record IsLogOf (layout : Layout) (calls : List ℕ) (passes : List Known) : 
   pub calls_are : calls ≡ map (λ entry. entry.call) (log_after layout.replicas history).entries
 
 -- each thread's calls are those of its script, and its answers what came of them
-abbrev pub AreAllCallsOf : Recording → List (List Query) → List (List Said) → Type 0
-AreAllCallsOf trace scripts answers = (thread : ℕ) (script : List Query) (items : List Said) → slice_get scripts thread ≡ Some script
+abbrev pub AreAllCallsOf : Recording → List (List Query) → List (List CallOutcome) → Type 0
+AreAllCallsOf trace scripts answers = (thread : ℕ) (script : List Query) (items : List CallOutcome) → slice_get scripts thread ≡ Some script
     → slice_get answers thread ≡ Some items → AreCallsOf trace thread script items
 
 -- each thread's pass has seen all on which its answers depend
@@ -80,7 +80,7 @@ HaveSeenAnswers trace passes = (thread : ℕ) (pass : Known) → slice_get passe
 
 -- the bytes spell one trace, of this layout, in which the threads' calls are those of their scripts, and the answers what came of them;
 -- its log is one log, of which each thread's pass has seen all on which the thread's answers depend
-pub record IsTraceOf (layout : Layout) (scripts : List (List Query)) (answers : List (List Said)) (passes : List Known) (bytes : List ℕ) : Type 0 where
+pub record IsTraceOf (layout : Layout) (scripts : List (List Query)) (answers : List (List CallOutcome)) (passes : List Known) (bytes : List ℕ) : Type 0 where
   pub layout_is : IsSpelledWith bytes (λ trace. trace.layout ≡ layout)
   pub answers_each : length answers ≡ layout.threads
   pub calls : IsSpelledWith bytes (λ trace. AreAllCallsOf trace scripts answers)
@@ -89,7 +89,7 @@ pub record IsTraceOf (layout : Layout) (scripts : List (List Query)) (answers : 
   pub seen : IsSpelledWith bytes (λ trace. HaveSeenAnswers trace passes)
 
 -- what a verified run of these scripts has to show: a trace of them without a fault, which is right with its recorded order
-pub record IsVerifiedRun (layout : Layout) (scripts : List (List Query)) (answers : List (List Said)) (bytes order : List ℕ)
+pub record IsVerifiedRun (layout : Layout) (scripts : List (List Query)) (answers : List (List CallOutcome)) (bytes order : List ℕ)
     (passes : List Known) : Type 0 where
   pub trace_of : IsTraceOf layout scripts answers passes bytes
   pub faultless : IsSpelledWith bytes IsFaultless
@@ -98,13 +98,13 @@ pub record IsVerifiedRun (layout : Layout) (scripts : List (List Query)) (answer
 
 -- what a refused run of these scripts has to show: a trace of them, for some answers and passes, and its first fault
 pub record IsRefusedRun (layout : Layout) (scripts : List (List Query)) (bytes : List ℕ) (fault : Fault) : Type 0 where
-  pub answers : List (List Said)
+  pub answers : List (List CallOutcome)
   pub passes : List Known
   pub trace_of : IsTraceOf layout scripts answers passes bytes
   pub first : IsFirstOf bytes fault
 
 -- if the outcome is a verified run, its answers, trace, order and passes have the property
-abbrev pub IfVerified : {J : Type 0} → (List (List Said) → List ℕ → List ℕ → List Known → Type 0) → Outcome J → Type 0
+abbrev pub IfVerified : {J : Type 0} → (List (List CallOutcome) → List ℕ → List ℕ → List Known → Type 0) → Outcome J → Type 0
 IfVerified P (Verified answers trace order passes) = P answers trace order passes
 IfVerified P (Refused trace fault) = ⊤
 

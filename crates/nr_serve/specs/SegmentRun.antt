@@ -20,8 +20,8 @@ use Rattle.nr_ring.specs.View.{StartsWith}
 use Rattle.nr_ring.specs.declared.ring.log_event.LogEvent.{LogEvent}
 use Rattle.nr_serve.specs.Run.{AreAllCallsOf}
 use Rattle.nr_serve.specs.RunState.{RunState}
-use Rattle.nr_serve.specs.declared.endings.said.Said.{Said}
-use Rattle.nr_serve.specs.declared.endings.said.Said.TheVariants.{Answer, Stopped}
+use Rattle.nr_serve.specs.declared.endings.call_outcome.CallOutcome.{CallOutcome}
+use Rattle.nr_serve.specs.declared.endings.call_outcome.CallOutcome.TheVariants.{Answer, Stopped}
 
 -- how the segments so far are laid out, if there are some
 abbrev pub layout_so_far : Option Kept → Option Layout
@@ -52,7 +52,7 @@ pub record Ran : Type 0 where
   pub trace : Recording
   pub order : List ℕ
   pub scripts : List (List Query)
-  pub answers : List (List Said)
+  pub answers : List (List CallOutcome)
 
 -- the calls of a segment are those of the run's log from the last cut on, up to the end of this history, which begins with all that each of
 -- the passes has seen at the end
@@ -86,18 +86,18 @@ pub record IsWrongSegment (state : RunState) (ran : Ran) (passes : List Known) (
   pub first : (before : Option Run) → IsKeptOf before state.kept → IsFirstAfter before ran.trace fault
 
 -- it was answered
-abbrev pub IsAnswer : Said → Type 0
+abbrev pub IsAnswer : CallOutcome → Type 0
 IsAnswer (Answer at answer) = ⊤
 IsAnswer Stopped = ⊥
 
 -- what a thread was given is asked to the end, and each request is answered
-pub record IsAllAnswered (script : List Query) (items : List Said) : Type 0 where
+pub record IsAllAnswered (script : List Query) (items : List CallOutcome) : Type 0 where
   pub each : length items ≡ length script
   pub answered : All IsAnswer items
 
 -- so is what each thread was given
-abbrev pub AreAllAnswered : List (List Query) → List (List Said) → Type 0
-AreAllAnswered scripts answers = (thread : ℕ) (script : List Query) (items : List Said) → slice_get scripts thread ≡ Some script
+abbrev pub AreAllAnswered : List (List Query) → List (List CallOutcome) → Type 0
+AreAllAnswered scripts answers = (thread : ℕ) (script : List Query) (items : List CallOutcome) → slice_get scripts thread ≡ Some script
     → slice_get answers thread ≡ Some items → IsAllAnswered script items
 
 -- the log is cut behind a segment, and the run goes on from there: all that was asked is answered, and the passes have seen the whole history.

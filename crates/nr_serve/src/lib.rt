@@ -8,8 +8,8 @@ mod instances;
 pub mod laws;
 mod threading;
 
+pub use endings::call_outcome::CallOutcome;
 pub use endings::outcome::{Answers, Outcome, Passes, TraceBytes};
-pub use endings::said::Said;
 pub use endings::segment_outcome::SegmentOutcome;
 pub use instances::always_go::AlwaysGo;
 pub use instances::no_segment::NoSegment;

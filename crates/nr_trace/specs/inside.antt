@@ -2,4 +2,4 @@
 pub mod Progress
 pub mod Reading
 pub mod Feeding
-pub mod Kept
+pub mod PackedEvent

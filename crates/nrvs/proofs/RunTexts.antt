@@ -3,13 +3,13 @@ use Rattle.std.proofs.Common.{◌≡◌, ℕ, zero, suc, ◌+◌, ◌<◌, List,
 use Rattle.std.specs.List.{enumerate_from, flat_map}
 use Rattle.std.proofs.lemmas.List.{append-nil, append_assoc}
 use Rattle.nrvs.specs.RunText.{thread_lines}
-use Rattle.nr_serve.specs.declared.endings.said.Said.{Said}
+use Rattle.nr_serve.specs.declared.endings.call_outcome.CallOutcome.{CallOutcome}
 
 -- the lines of the threads from `first` on
-abbrev pub lines_of : {X : Type 0} → (X → List Said) → ℕ → List X → List ℕ
+abbrev pub lines_of : {X : Type 0} → (X → List CallOutcome) → ℕ → List X → List ℕ
 lines_of said first threads = flat_map thread_lines (enumerate_from first (map said threads))
 
-pub next_lines : {X : Type 0} (said : X → List Said) (first n : ℕ) (threads : List X) (d : X) → n < length threads
+pub next_lines : {X : Type 0} (said : X → List CallOutcome) (first n : ℕ) (threads : List X) (d : X) → n < length threads
     → lines_of said first (take (suc n) threads) ≡ lines_of said first (take n threads) ++ thread_lines (first + n, said (get_or threads n d))
 next_lines said first n [] d lt = absurd (omega arith)
 next_lines said first zero (x ∷ xs) d lt =

@@ -8,7 +8,7 @@ use Rattle.nr_trace.specs.declared.refusals.fault.Fault.{Fault}
 use Rattle.nr_serve.specs.Run.{IsRefusedRun, IsVerifiedRun}
 use Rattle.nr_serve.specs.declared.endings.outcome.Outcome.{Outcome}
 use Rattle.nr_serve.specs.declared.endings.outcome.Outcome.TheVariants.{Verified, Refused}
-use Rattle.nr_serve.specs.declared.endings.said.Said.{Said}
+use Rattle.nr_serve.specs.declared.endings.call_outcome.CallOutcome.{CallOutcome}
 use Rattle.nr_script.specs.Script.{IsScript}
 use Rattle.nr_script.specs.declared.script.Script.{Script}
 use Rattle.audit_readers.specs.Answers.{IsReadOf}
@@ -25,7 +25,7 @@ asked_for false trace text = text
 
 -- a verified run of these scripts is written
 pub record TellsVerified (layout : Layout) (scripts : List (List Query)) (as_trace : Bool) (text : List ℕ) (status : ℕ) : Type 0 where
-  pub answers : List (List Said)
+  pub answers : List (List CallOutcome)
   pub trace : List ℕ
   pub order : List ℕ
   pub passes : List Known

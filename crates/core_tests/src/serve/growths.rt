@@ -3,7 +3,7 @@
 use crate::serve::scene::{TURNS, verified};
 use crate::serve::scripts::{map_a, resolve_a, unmap_a};
 use crate::serve::segments::segments_of;
-use nr_serve::{AlwaysGo, Said};
+use nr_serve::{AlwaysGo, CallOutcome};
 use std::test::Fail;
 use vs_types::{Answer, Request, Rights, Size};
 
@@ -16,10 +16,10 @@ fn whole_run(rt: HostRuntime) -> Result<(), Fail> {
         &rt,
         0,
         &[
-            Said::Answer(0, Answer::Done),
-            Said::Answer(1, Answer::Mapped(0x1123, Size::K4, Rights::ALL)),
-            Said::Answer(1, Answer::Removed(0x1000, Size::K4, Rights::ALL)),
-            Said::Answer(2, Answer::NotMapped),
+            CallOutcome::Answer(0, Answer::Done),
+            CallOutcome::Answer(1, Answer::Mapped(0x1123, Size::K4, Rights::ALL)),
+            CallOutcome::Answer(1, Answer::Removed(0x1000, Size::K4, Rights::ALL)),
+            CallOutcome::Answer(2, Answer::NotMapped),
         ],
     );
     Ok(())
@@ -30,7 +30,7 @@ fn run_in_two_segments(rt: HostRuntime) -> Result<(), Fail> {
     let segments: [&[&[Request]]; 2] = [&[&[map_a(&rt)]], &[&[resolve_a(&rt)]]];
     let shown = segments_of(&rt, rt.alloc(), 1, 1, &segments, &AlwaysGo)?;
     let mapped = Answer::Mapped(0x1123, Size::K4, Rights::ALL);
-    shown.assert_said(&rt, 0, 0, &[Said::Answer(0, Answer::Done)]);
-    shown.assert_said(&rt, 1, 0, &[Said::Answer(0, mapped)]);
+    shown.assert_said(&rt, 0, 0, &[CallOutcome::Answer(0, Answer::Done)]);
+    shown.assert_said(&rt, 1, 0, &[CallOutcome::Answer(0, mapped)]);
     Ok(())
 }

@@ -3,7 +3,7 @@ use crate::serve::gates::{HoldUntil, StopAt};
 use crate::serve::scene::shown_by;
 use crate::serve::scripts::{map_a, overlapping, resolve_a, unmap_a};
 use nr_replicas::Point;
-use nr_serve::{AlwaysGo, Said};
+use nr_serve::{AlwaysGo, CallOutcome};
 use vs_types::Answer;
 
 #[test]
@@ -11,8 +11,8 @@ fn stopped_when_called(rt: HostRuntime) {
     let alloc = rt.alloc();
     let gate = StopAt(0, Point::Called);
     let shown = shown_by(&rt, alloc, 1, &[&[map_a(&rt)], &[resolve_a(&rt)]], &gate);
-    shown.assert_said(&rt, 0, &[Said::Stopped]);
-    shown.assert_said(&rt, 1, &[Said::Answer(0, Answer::NotMapped)]);
+    shown.assert_said(&rt, 0, &[CallOutcome::Stopped]);
+    shown.assert_said(&rt, 1, &[CallOutcome::Answer(0, Answer::NotMapped)]);
     assert_eq!(rt; shown.read(&rt, alloc).log().len(), 0);
 }
 
@@ -22,8 +22,8 @@ fn stopped_when_appended(rt: HostRuntime) {
     let script = [map_a(&rt)];
     let gate = HoldUntil::new(1, Point::Appended, true);
     let shown = shown_by(&rt, alloc, 1, &[&script, &script], &gate);
-    shown.assert_said(&rt, 0, &[Said::Stopped]);
-    shown.assert_said(&rt, 1, &[Said::Answer(1, Answer::Overlap(0x400000))]);
+    shown.assert_said(&rt, 0, &[CallOutcome::Stopped]);
+    shown.assert_said(&rt, 1, &[CallOutcome::Answer(1, Answer::Overlap(0x400000))]);
     let trace = shown.read(&rt, alloc);
     assert_eq!(rt; trace.log(), shown.order.calls());
     assert_eq!(rt; trace.log().len(), 2);
@@ -35,7 +35,7 @@ fn stopped_when_answered(rt: HostRuntime) {
     let alloc = rt.alloc();
     let gate = StopAt(0, Point::Answered);
     let shown = shown_by(&rt, alloc, 1, &[&[map_a(&rt)]], &gate);
-    shown.assert_said(&rt, 0, &[Said::Stopped]);
+    shown.assert_said(&rt, 0, &[CallOutcome::Stopped]);
     let trace = shown.read(&rt, alloc);
     assert_eq!(rt; trace.log(), [0u32].as_slice());
     assert_eq!(rt; shown.order.calls(), [0u32].as_slice());
@@ -47,9 +47,9 @@ fn stopped_when_answered(rt: HostRuntime) {
 fn replica_of_a_stopped_thread(rt: HostRuntime) {
     let alloc = rt.alloc();
     let unmaps = [unmap_a(&rt); 40];
-    let mut said = [Said::Stopped; 40];
+    let mut said = [CallOutcome::Stopped; 40];
     for place in 0..40u32 {
-        said[place as usize] = Said::Answer(place, Answer::NotMapped);
+        said[place as usize] = CallOutcome::Answer(place, Answer::NotMapped);
     }
     let gate = StopAt(1, Point::Called);
     let shown = shown_by(&rt, alloc, 2, &[&unmaps, &[resolve_a(&rt)]], &gate);

@@ -3,7 +3,7 @@ use crate::serve::gates::{AllAtOnce, Around, Counting, StopAt};
 use crate::serve::scene::shown_by;
 use crate::serve::scripts::{map_a, overlapping, resolve_a, unmap_a};
 use nr_replicas::Point;
-use nr_serve::Said;
+use nr_serve::CallOutcome;
 use nr_trace::Event;
 use std::alloc::Global;
 use std::process::Abort;
@@ -68,8 +68,10 @@ fn run_at_once<R: Threads + Wait + Abort + Sync>(
     let (mut done, mut overlaps) = (0usize, 0usize);
     for said in shown.answers.threads() {
         match said.as_slice() {
-            [Said::Answer(_, Answer::Done)] => done = done.wrapping_add(1),
-            [Said::Answer(_, Answer::Overlap(0x400000))] => overlaps = overlaps.wrapping_add(1),
+            [CallOutcome::Answer(_, Answer::Done)] => done = done.wrapping_add(1),
+            [CallOutcome::Answer(_, Answer::Overlap(0x400000))] => overlaps = overlaps.wrapping_add(
+                1,
+            ),
             said => panic!(rt; "{said:?}"),
         }
     }
@@ -96,8 +98,8 @@ fn map_around<R: Threads + Wait + Abort + Sync>(
     let script = [map_a(rt)];
     let gate = Around::new(held, until);
     let shown = shown_by(rt, alloc, replicas, &[&script, &script], &gate);
-    let done = Said::Answer(0, Answer::Done);
-    let overlap = Said::Answer(1, Answer::Overlap(0x400000));
+    let done = CallOutcome::Answer(0, Answer::Done);
+    let overlap = CallOutcome::Answer(1, Answer::Overlap(0x400000));
     let said = (shown.said_once(rt, held.0), shown.said_once(rt, until.0));
     let may_be_so = match (held.1, until.1) {
         (Point::Called, Point::Called) => said == (done, overlap) || said == (overlap, done),
@@ -122,12 +124,18 @@ fn held_at_each_point(rt: HostRuntime) {
 }
 
 /// What came of the calls of a thread: so many, of which the last is stopped, or none is.
-fn assert_ends(rt: &impl Abort, thread: usize, said: &[Said], count: usize, is_stopped: bool) {
+fn assert_ends(
+    rt: &impl Abort,
+    thread: usize,
+    said: &[CallOutcome],
+    count: usize,
+    is_stopped: bool,
+) {
     assert_eq!(rt; said.len(), count, "thread {thread}");
     for (number, item) in said.iter().enumerate() {
         let is_last = number + 1 == count;
         assert_eq!(rt;
-            *item == Said::Stopped,
+            *item == CallOutcome::Stopped,
             is_stopped && is_last,
             "call {number} of {thread}"
         );

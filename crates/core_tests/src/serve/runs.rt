@@ -3,7 +3,7 @@ use crate::serve::gates::{HoldUntil, InTurn};
 use crate::serve::scene::{TURNS, shown_by, verified_of};
 use crate::serve::scripts::{access_high, map_a, map_high, resolve_a, unmap_a};
 use nr_replicas::Point;
-use nr_serve::{AlwaysGo, Said};
+use nr_serve::{AlwaysGo, CallOutcome};
 use nr_trace::{Event, Version};
 use vs_types::{Access, Answer, Config, Depth, Mode, Rights, Size};
 
@@ -16,10 +16,10 @@ fn run_of_four_lines(rt: HostRuntime) {
         &rt,
         0,
         &[
-            Said::Answer(0, Answer::Done),
-            Said::Answer(1, Answer::Mapped(0x1123, Size::K4, Rights::ALL)),
-            Said::Answer(1, Answer::Removed(0x1000, Size::K4, Rights::ALL)),
-            Said::Answer(2, Answer::NotMapped),
+            CallOutcome::Answer(0, Answer::Done),
+            CallOutcome::Answer(1, Answer::Mapped(0x1123, Size::K4, Rights::ALL)),
+            CallOutcome::Answer(1, Answer::Removed(0x1000, Size::K4, Rights::ALL)),
+            CallOutcome::Answer(2, Answer::NotMapped),
         ],
     );
     assert_eq!(rt; shown.order.calls(), [0u32, 2, 4, 6].as_slice());
@@ -41,8 +41,8 @@ fn two_workers_really_run(rt: HostRuntime) {
         let gate = HoldUntil::new(held, Point::Answered, false);
         let script = [resolve_a(&rt)];
         let shown = shown_by(&rt, alloc, 2, &[&script, &script], &gate);
-        shown.assert_said(&rt, 0, &[Said::Answer(0, Answer::NotMapped)]);
-        shown.assert_said(&rt, 1, &[Said::Answer(0, Answer::NotMapped)]);
+        shown.assert_said(&rt, 0, &[CallOutcome::Answer(0, Answer::NotMapped)]);
+        shown.assert_said(&rt, 1, &[CallOutcome::Answer(0, Answer::NotMapped)]);
     }
 }
 
@@ -53,7 +53,7 @@ fn read_at_its_own_replica(rt: HostRuntime) {
     let gate = HoldUntil::new(1, Point::Answered, false);
     let shown = shown_by(&rt, alloc, 2, &[&[map_a(&rt)], &[resolve_a(&rt)]], &gate);
     let mapped = Answer::Mapped(0x1123, Size::K4, Rights::ALL);
-    shown.assert_said(&rt, 1, &[Said::Answer(1, mapped)]);
+    shown.assert_said(&rt, 1, &[CallOutcome::Answer(1, mapped)]);
     let trace = shown.read(&rt, alloc);
     let dumps = trace.dumps();
     assert!(rt; dumps.len() == 2);
@@ -102,11 +102,11 @@ fn accesses_of_five_levels(rt: HostRuntime) {
         &rt,
         0,
         &[
-            Said::Answer(0, Answer::Fault(6)),
-            Said::Answer(0, Answer::Done),
-            Said::Answer(1, Answer::Allowed(0x1123)),
-            Said::Answer(1, Answer::Fault(7)),
-            Said::Answer(1, Answer::Fault(17)),
+            CallOutcome::Answer(0, Answer::Fault(6)),
+            CallOutcome::Answer(0, Answer::Done),
+            CallOutcome::Answer(1, Answer::Allowed(0x1123)),
+            CallOutcome::Answer(1, Answer::Fault(7)),
+            CallOutcome::Answer(1, Answer::Fault(17)),
         ],
     );
     let trace = shown.read(&rt, alloc);

@@ -7,7 +7,7 @@ use crate::serve::scripts::assert_scripts;
 use nr_audit::Order;
 use nr_replicas::Gate;
 use nr_ring::LogName;
-use nr_serve::{Answers, NoThread, Outcome, Said, TraceBytes, run};
+use nr_serve::{Answers, CallOutcome, NoThread, Outcome, TraceBytes, run};
 use nr_trace::{Trace, read};
 use std::alloc::Global;
 use std::marker::Brand;
@@ -29,14 +29,14 @@ pub struct Shown {
 
 impl Shown {
     /// What came of the calls of a thread.
-    pub fn assert_said(&self, rt: &impl Abort, thread: usize, said: &[Said]) {
+    pub fn assert_said(&self, rt: &impl Abort, thread: usize, said: &[CallOutcome]) {
         let all = self.answers.threads();
         assert!(rt; thread < all.len());
         assert_eq!(rt; all[thread].as_slice(), said);
     }
 
     /// What came of the call of a thread that makes one.
-    pub fn said_once(&self, rt: &impl Abort, thread: u16) -> Said {
+    pub fn said_once(&self, rt: &impl Abort, thread: u16) -> CallOutcome {
         let said = self
             .answers
             .threads()

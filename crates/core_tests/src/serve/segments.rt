@@ -8,7 +8,7 @@ use crate::serve::scripts::{assert_scripts, map_a, overlapping, resolve_a, unmap
 use nr_chain::{ChainVerdict, audit_chain};
 use nr_replicas::{Gate, Point};
 use nr_ring::LogName;
-use nr_serve::{AlwaysGo, Answers, ChainRun, NoSegment, Said, SegmentOutcome};
+use nr_serve::{AlwaysGo, Answers, CallOutcome, ChainRun, NoSegment, SegmentOutcome};
 use std::alloc::Global;
 use std::marker::Brand;
 use std::process::Abort;
@@ -31,7 +31,13 @@ impl ShownChain {
     }
 
     /// What came of the calls of a thread in a segment.
-    pub fn assert_said(&self, rt: &impl Abort, segment: usize, thread: usize, said: &[Said]) {
+    pub fn assert_said(
+        &self,
+        rt: &impl Abort,
+        segment: usize,
+        thread: usize,
+        said: &[CallOutcome],
+    ) {
         let all = self.answers.get(segment).expect(rt, "a segment").threads();
         assert!(rt; thread < all.len());
         assert_eq!(rt; all[thread].as_slice(), said);
@@ -142,14 +148,17 @@ fn map_in_one_and_resolve_in_the_next(rt: HostRuntime) {
     let shown = segments_of(&rt, rt.alloc(), 1, 1, &segments, &AlwaysGo).expect(&rt, "segments");
     let mapped = Answer::Mapped(0x1123, Size::K4, Rights::ALL);
     let removed = Answer::Removed(0x1000, Size::K4, Rights::ALL);
-    shown.assert_said(&rt, 0, 0, &[Said::Answer(0, Answer::Done)]);
+    shown.assert_said(&rt, 0, 0, &[CallOutcome::Answer(0, Answer::Done)]);
     shown.assert_said(
         &rt,
         1,
         0,
-        &[Said::Answer(0, mapped), Said::Answer(0, removed)],
+        &[
+            CallOutcome::Answer(0, mapped),
+            CallOutcome::Answer(0, removed),
+        ],
     );
-    shown.assert_said(&rt, 2, 0, &[Said::Answer(0, Answer::NotMapped)]);
+    shown.assert_said(&rt, 2, 0, &[CallOutcome::Answer(0, Answer::NotMapped)]);
     shown.assert_chain(&rt, rt.alloc());
 }
 
@@ -177,7 +186,7 @@ fn stopped_thread_ends_the_run(rt: HostRuntime) {
     let gate = StopAt(0, Point::Appended);
     let shown = segments_of(&rt, rt.alloc(), 2, 2, &segments, &gate).expect(&rt, "segments");
     assert_eq!(rt; shown.answers.len(), 2);
-    shown.assert_said(&rt, 1, 0, &[Said::Stopped]);
+    shown.assert_said(&rt, 1, 0, &[CallOutcome::Stopped]);
     shown.assert_chain(&rt, rt.alloc());
 }
 
@@ -187,6 +196,6 @@ fn segment_without_calls(rt: HostRuntime) {
     let segments: [&[&[Request]]; 2] = [&[&[], &[]], &[&[map_a(&rt)], &[]]];
     let shown = segments_of(&rt, rt.alloc(), 1, 2, &segments, &AlwaysGo).expect(&rt, "segments");
     shown.assert_said(&rt, 0, 1, &[]);
-    shown.assert_said(&rt, 1, 0, &[Said::Answer(0, Answer::Done)]);
+    shown.assert_said(&rt, 1, 0, &[CallOutcome::Answer(0, Answer::Done)]);
     shown.assert_chain(&rt, rt.alloc());
 }

@@ -1,7 +1,7 @@
 //! How many turns a call has.
 use crate::serve::scene::verified;
 use crate::serve::scripts::unmap_a;
-use nr_serve::{AlwaysGo, Said};
+use nr_serve::{AlwaysGo, CallOutcome};
 use std::alloc::Global;
 use std::process::Abort;
 use std::sync::Wait;
@@ -22,11 +22,11 @@ fn update_in_turns<R: Threads + Wait + Abort + Sync>(
     let script = vec![in alloc; unmap_a(rt); UPDATES as usize].expect(rt, "memory");
     let mut said = Vec::new(alloc);
     for place in 0..answered {
-        let done = Said::Answer(place, Answer::NotMapped);
+        let done = CallOutcome::Answer(place, Answer::NotMapped);
         said.push(done).expect(rt, "memory");
     }
     if answered < UPDATES {
-        said.push(Said::Stopped).expect(rt, "memory");
+        said.push(CallOutcome::Stopped).expect(rt, "memory");
     }
     let none = Vec::new(alloc);
     let scripts = vec![in alloc; script, none, Vec::new(alloc), Vec::new(alloc)];

@@ -6,7 +6,7 @@ use Rattle.vs_types.specs.declared.log_entry.LogEntry.{LogEntry}
 use Rattle.nr_ring.specs.declared.cells.words.TheConstants.{MOST_PLACES}
 use Rattle.vs_space.specs.Table.{PageTable, IsTableOf}
 use Rattle.nr_node.specs.Spaces.{answer_at, space_of}
-use Rattle.nr_node.specs.inside.Told.{Told}
+use Rattle.nr_node.specs.inside.AppliedEntry.{AppliedEntry}
 
 -- what contracts see of a replica: its depth, how many tables it may have, how many of its entries it keeps no more, and the entries that
 -- it has applied
@@ -21,7 +21,7 @@ pub record PastState : Type 0 where
   pub count : ℕ
   pub entries : List LogEntry
 
-abbrev pub entries_told : List Told → List LogEntry
+abbrev pub entries_told : List AppliedEntry → List LogEntry
 entries_told told = map (λ t. t.entry) told
 
 -- how many entries a replica keeps at most: those of a log of 65,536 places, and those of one turn
@@ -30,10 +30,10 @@ most_kept = LOG_PLACES + (RING + RING)
 
 -- the page table is that of the space after the entries, which are those that are kept no more and those that are kept, each with its
 -- answer; there is room for as many as may be kept
-pub record IsReplica (table : PageTable) (base : ℕ) (past : List LogEntry) (told : List Told) (room : ℕ) : Type 0 where
+pub record IsReplica (table : PageTable) (base : ℕ) (past : List LogEntry) (told : List AppliedEntry) (room : ℕ) : Type 0 where
   pub base_is : base ≡ length past
   pub table_of : IsTableOf table (space_of table.depth table.limit (past ++ entries_told told))
-  pub answers : (place : ℕ) (t : Told) → slice_get told place ≡ Some t
+  pub answers : (place : ℕ) (t : AppliedEntry) → slice_get told place ≡ Some t
       → t.answer ≡ answer_at table.depth table.limit (past ++ entries_told told) (base + place) t.entry.op
   pub low : base ≤ MOST_PLACES
   pub few : length told ≤ most_kept
@@ -41,7 +41,7 @@ pub record IsReplica (table : PageTable) (base : ℕ) (past : List LogEntry) (to
   pub reserved : most_kept ≤ room
 
 -- what is kept of a place is its entry with its answer
-pub record IsKeptAt (replica : ReplicaState) (place : ℕ) (told : Told) : Type 0 where
+pub record IsKeptAt (replica : ReplicaState) (place : ℕ) (told : AppliedEntry) : Type 0 where
   pub above : replica.base ≤ place
   pub below : place < length replica.entries
   pub stands : slice_get replica.entries place ≡ Some told.entry

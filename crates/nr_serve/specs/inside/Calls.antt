@@ -12,8 +12,8 @@ use Rattle.nr_replicas.specs.Replicas.{IsAnsweredAt, IsReadAt}
 use Rattle.nr_record.specs.Pen.{ClockId, PenState, call_by, stamped}
 use Rattle.nr_record.specs.declared.stamped.Stamped.{Stamped}
 use Rattle.nr_serve.specs.Run.{HasAllOrStopped, StopsLast}
-use Rattle.nr_serve.specs.declared.endings.said.Said.{Said}
-use Rattle.nr_serve.specs.declared.endings.said.Said.TheVariants.{Answer, Stopped}
+use Rattle.nr_serve.specs.declared.endings.call_outcome.CallOutcome.{CallOutcome}
+use Rattle.nr_serve.specs.declared.endings.call_outcome.CallOutcome.TheVariants.{Answer, Stopped}
 
 -- of which log the calls are, and the place from which on theirs are counted
 pub record Since : Type 0 where
@@ -27,17 +27,17 @@ since log from = record { log = log; from = from }
 pub record WorkerState : Type 0 where
   pub pen : PenState
   pub pass : Known
-  pub said : List Said
+  pub said : List CallOutcome
 
 -- a call that a thread made: what it asked, the call's number, what came of it, and the stamp of the reply where there is one
 pub record MadeCall : Type 0 where
   pub request : Query
   pub number : ℕ
-  pub said : Said
+  pub said : CallOutcome
   pub replied : ℕ
 
 -- the note of the reply to a call
-abbrev pub reply_notes : ℕ → ℕ → Said → List Stamped
+abbrev pub reply_notes : ℕ → ℕ → CallOutcome → List Stamped
 reply_notes number replied (Answer at answer) = stamped replied (Reply number at answer) ∷ []
 reply_notes number replied Stopped = []
 
@@ -57,7 +57,7 @@ IsTrueAt layout log number (Access address mode access) place answer =
     IsReadAt layout.depth layout.tables 0 log (λ space. allow space address mode access) place answer
 
 -- what came of a call is true of a log, where its places are counted from this one on
-abbrev pub IsTrueOf : Layout → ℕ → Log → ℕ → Query → Said → Type 0
+abbrev pub IsTrueOf : Layout → ℕ → Log → ℕ → Query → CallOutcome → Type 0
 IsTrueOf layout from log number request Stopped = ⊤
 IsTrueOf layout from log number request (Answer at answer) = IsTrueAt layout log number request (from + at) answer
 

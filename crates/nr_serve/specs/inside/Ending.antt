@@ -8,7 +8,7 @@ use Rattle.nr_record.specs.Events.{AreEventsOf}
 use Rattle.nr_record.specs.Pen.{PenState}
 use Rattle.nr_serve.specs.inside.Calls.{WorkerState}
 use Rattle.nr_serve.specs.Run.{IsLogOf}
-use Rattle.nr_serve.specs.declared.endings.said.Said.{Said}
+use Rattle.nr_serve.specs.declared.endings.call_outcome.CallOutcome.{CallOutcome}
 
 abbrev pub pens_of : List WorkerState → List PenState
 pens_of workers = map (λ worker. worker.pen) workers
@@ -16,7 +16,7 @@ pens_of workers = map (λ worker. worker.pen) workers
 abbrev pub passes_of : List WorkerState → List Known
 passes_of workers = map (λ worker. worker.pass) workers
 
-abbrev pub answers_of : List WorkerState → List (List Said)
+abbrev pub answers_of : List WorkerState → List (List CallOutcome)
 answers_of workers = map (λ worker. worker.said) workers
 
 -- the bytes spell a trace of this layout, with what these pens were given, and a log that begins with all that these passes have seen

@@ -11,7 +11,7 @@ use Rattle.nr_record.specs.Pen.{ClockId, PenState}
 use Rattle.nr_replicas.specs.Replicas.{OpenState}
 use Rattle.nr_serve.specs.RunState.{RunState}
 use Rattle.nr_serve.specs.SegmentRun.{HasSeenMore}
-use Rattle.nr_serve.specs.declared.endings.said.Said.{Said}
+use Rattle.nr_serve.specs.declared.endings.call_outcome.CallOutcome.{CallOutcome}
 use Rattle.nr_serve.specs.inside.Calls.{AreServed, Since, WorkerState}
 use Rattle.nr_serve.specs.inside.Ending.{answers_of, passes_of, pens_of}
 
@@ -39,7 +39,7 @@ pub record IsRunOf (depth : Depth) (replicas : ℕ) (opened : OpenState) (passes
 
 -- threads that began with these passes have done what the scripts ask, and this is what they handed back
 pub record HaveServed (clock : ClockId) (of : Since) (before : List Known) (scripts : List (List Query)) (pens : List PenState) (passes : List Known)
-    (answers : List (List Said)) : Type 0 where
+    (answers : List (List CallOutcome)) : Type 0 where
   pub workers : List WorkerState
   pub served : AreServed clock of scripts workers
   pub heard : AllZip HasSeenMore before (passes_of workers)

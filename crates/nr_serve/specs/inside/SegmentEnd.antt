@@ -8,7 +8,7 @@ use Rattle.nr_ring.specs.Pass.{Known}
 use Rattle.nr_record.specs.Pen.{AreAllPens, ClockId, PenState}
 use Rattle.nr_replicas.specs.Replicas.{OpenState}
 use Rattle.nr_serve.specs.ChainOfRun.{IsOutcomeOf}
-use Rattle.nr_serve.specs.declared.endings.said.Said.{Said}
+use Rattle.nr_serve.specs.declared.endings.call_outcome.CallOutcome.{CallOutcome}
 use Rattle.nr_serve.specs.declared.endings.segment_outcome.SegmentOutcome.{SegmentOutcome}
 use Rattle.nr_serve.specs.inside.Calls.{Since}
 use Rattle.nr_serve.specs.inside.Segment.{HaveServed, IsRunOf, state_with}
@@ -26,6 +26,6 @@ pub record MayEnd (depth : Depth) (replicas : ℕ) (clock : ClockId) (of : Since
   pub all_pens : AreAllPens clock pens
 
 -- what comes of a segment whose threads have handed this back, with whatever passes they began and whatever they were given to ask
-abbrev pub IsEndOf : {J : Type 0} → ClockId → Since → Layout → Option Past → List PenState → List Known → List (List Said) → SegmentOutcome J → Type 0
+abbrev pub IsEndOf : {J : Type 0} → ClockId → Since → Layout → Option Past → List PenState → List Known → List (List CallOutcome) → SegmentOutcome J → Type 0
 IsEndOf clock of layout past pens passes answers outcome = (before : List Known) (scripts : List (List Query))
     → HaveServed clock of before scripts pens passes answers → IsOutcomeOf (state_with of before layout past) scripts outcome

@@ -9,7 +9,7 @@ use Rattle.nr_ring.specs.Pass.{Known, TableId}
 use Rattle.nr_record.specs.Pen.{ClockId, PenState, calls_in, new_pen}
 use Rattle.nr_serve.specs.SegmentRun.{HasSeenMore, IsAnswer}
 use Rattle.nr_serve.specs.inside.Calls.{IsServed, IsTrueOf, MadeCall, Since, WorkerState, notes_of}
-use Rattle.nr_serve.specs.declared.endings.said.Said.{Said}
+use Rattle.nr_serve.specs.declared.endings.call_outcome.CallOutcome.{CallOutcome}
 
 -- the layout, and the place from which on places are counted, are those of the names of a log and of its replicas
 pub record IsNamed (layout : Layout) (base : ℕ) (depth : Depth) (replicas tables from : ℕ) : Type 0 where
@@ -46,7 +46,7 @@ abbrev pub IsDone : ClockId → Since → JobState → WorkerState → Type 0
 IsDone clock of job worker = IsServed clock of job.thread job.script worker × HasSeenMore job.pass worker.pass
 
 -- a pen has noted one call more, and its reply where there is one; what came of it is true of the log that the pass has seen
-pub record HasCalled (layout : Layout) (from : ℕ) (request : Query) (before after : PenState) (pass : Known) (said : Said) : Type 0 where
+pub record HasCalled (layout : Layout) (from : ℕ) (request : Query) (before after : PenState) (pass : Known) (said : CallOutcome) : Type 0 where
   pub number : ℕ
   pub replied : ℕ
   pub of_clock : after.clock ≡ before.clock
@@ -58,7 +58,7 @@ pub record HasCalled (layout : Layout) (from : ℕ) (request : Query) (before af
   pub true_call : IsTrueOf layout from (log_after layout.replicas pass.view.seen) number request said
 
 -- so many requests of the script are answered
-pub record IsUnderWay (clock : ClockId) (of : Since) (thread : ℕ) (script : List Query) (done : ℕ) (pen : PenState) (pass : Known) (said : List Said)
+pub record IsUnderWay (clock : ClockId) (of : Since) (thread : ℕ) (script : List Query) (done : ℕ) (pen : PenState) (pass : Known) (said : List CallOutcome)
     : Type 0 where
   pub of_clock : pen.clock ≡ clock
   pub of_thread : pen.thread ≡ thread

@@ -11,8 +11,8 @@ ghost use Rattle.nr_serve.specs.inside.Calls.{AreServed, since};
 ghost use Rattle.nr_serve.specs.Run.{IfRunRefused, IfVerified, IsRefusedRun, IsVerifiedRun};
 ghost use Rattle.nr_serve.specs.inside.Ending.{IsWrittenOf, answers_of, passes_of, pens_of};
 
+use crate::endings::call_outcome::CallOutcome;
 use crate::endings::outcome::{Answers, Outcome, Passes, TraceBytes};
-use crate::endings::said::Said;
 use crate::threading::worker::Worker;
 use nr_audit::{Verdict, audit};
 use nr_record::{Clock, Pen, finish};
@@ -26,7 +26,7 @@ use vs_types::{Config, Memory};
 pub(crate) struct Parts<J: LogName> {
     pub(crate) pens: Vec<Pen>,
     pub(crate) passes: Vec<LogPass<J>>,
-    pub(crate) answers: Vec<Vec<Said>>,
+    pub(crate) answers: Vec<Vec<CallOutcome>>,
 }
 
 /// The pens, the passes and the answers of all threads.
@@ -80,7 +80,7 @@ fn written<J: LogName, K: ReplicasName>(
 /// The auditor's verdict on the bytes, with what the run has to show for it.
 fn judged<J: LogName>(
     alloc: Global,
-    answers: Vec<Vec<Said>>,
+    answers: Vec<Vec<CallOutcome>>,
     bytes: Vec<u8>,
     passes: Vec<LogPass<J>>,
 ) -> Result<Outcome<J>, Memory>

@@ -1,5 +1,5 @@
 //! What comes of a run.
-use crate::endings::said::Said;
+use crate::endings::call_outcome::CallOutcome;
 use nr_audit::Order;
 use nr_ring::{LogName, LogPass};
 use nr_trace::Fault;
@@ -8,14 +8,14 @@ use std::marker::Model;
 /// What came of the calls, by thread and then by call. Contracts see the lists.
 #[derive(Debug, Drop)]
 pub struct Answers {
-    threads: Vec<Vec<Said>>,
+    threads: Vec<Vec<CallOutcome>>,
 }
 
 impl Model for Answers {
     ghost use Rattle.std.specs.Prelude.{List, map};
-    ghost use Rattle.nr_serve.specs.declared.endings.said.Said.{Said};
+    ghost use Rattle.nr_serve.specs.declared.endings.call_outcome.CallOutcome.{CallOutcome};
 
-    ghost Value = { List (List Said) };
+    ghost Value = { List (List CallOutcome) };
 
     ghost view = { λ a. map (λ said. said.items) a.threads.items };
 }
@@ -23,14 +23,14 @@ impl Model for Answers {
 impl Answers {
     ghost use Rattle.std.specs.Prelude.{◌≡◌, map};
 
-    pub(crate) fn of(threads: Vec<Vec<Said>>) -> Answers
+    pub(crate) fn of(threads: Vec<Vec<CallOutcome>>) -> Answers
         ensures { result ≡ map (λ said. said.items) threads.items }
     {
         Answers { threads }
     }
 
     /// What came of the calls of each thread, in order.
-    pub fn threads(&self) -> &[Vec<Said>]
+    pub fn threads(&self) -> &[Vec<CallOutcome>]
         ensures { map (λ said. said.items) result.now ≡ self.now }
     {
         &self.threads

@@ -11,9 +11,9 @@ ghost use Rattle.nr_serve.specs.SegmentRun.{IsAnswer};
 ghost use Rattle.nr_serve.specs.inside.Calls.{since};
 ghost use Rattle.nr_serve.specs.inside.SegmentEnd.{IsEndOf, MayEnd};
 
+use crate::endings::call_outcome::CallOutcome;
 use crate::endings::ending::Parts;
 use crate::endings::outcome::{Answers, Passes, TraceBytes};
-use crate::endings::said::Said;
 use crate::endings::segment_outcome::SegmentOutcome;
 use crate::instances::no_segment::NoSegment;
 use crate::threading::chain_run::{Between, ChainRun};
@@ -34,21 +34,21 @@ struct Written {
 }
 
 /// Whether each of these calls was answered.
-fn are_answered(items: &[Said]) -> bool
+fn are_answered(items: &[CallOutcome]) -> bool
     ensures yes { IsTrue result → All IsAnswer items.now }
     ensures no { All IsAnswer items.now → IsTrue result }
 {
     for item in items {
         match item {
-            Said::Answer(_, _) => {}
-            Said::Stopped => return false,
+            CallOutcome::Answer(_, _) => {}
+            CallOutcome::Stopped => return false,
         }
     }
     true
 }
 
 /// Whether each call of all threads was answered.
-fn all_answered(answers: &[Vec<Said>]) -> bool
+fn all_answered(answers: &[Vec<CallOutcome>]) -> bool
     ensures yes { IsTrue result → All (λ items. All IsAnswer items.items) answers.now }
     ensures no { All (λ items. All IsAnswer items.items) answers.now → IsTrue result }
 {

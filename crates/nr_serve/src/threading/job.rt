@@ -4,7 +4,7 @@ ghost use Rattle.nr_serve.specs.SegmentRun.{HasSeenMore};
 ghost use Rattle.nr_serve.specs.inside.Calls.{IsServed, since};
 ghost use Rattle.nr_serve.specs.inside.Working.{IsDone, IsNamed, IsReady, IsReadyJob};
 
-use crate::endings::said::Said;
+use crate::endings::call_outcome::CallOutcome;
 use crate::threading::team::Team;
 use crate::threading::worker::Worker;
 use nr_record::Pen;
@@ -21,7 +21,7 @@ pub(crate) struct Job<J: LogName> {
     pub(crate) script: Vec<Request>,
     pub(crate) pen: Pen,
     pub(crate) pass: LogPass<J>,
-    pub(crate) said: Vec<Said>,
+    pub(crate) said: Vec<CallOutcome>,
 }
 
 impl<J: LogName> Model for Job<J> {
@@ -68,7 +68,7 @@ fn work_through<J: LogName, K: ReplicasName, G: Gate, R: Wait>(
     script: &[Request],
     pen: &mut Pen,
     pass: &mut LogPass<J>,
-    said: &mut Vec<Said>,
+    said: &mut Vec<CallOutcome>,
 )
     requires layout { team.now.replicas.now ≡ team.now.clock.now.layout }
     requires names { IsNamed team.now.clock.now.layout team.now.base J.depth J.replicas K.tables K.base }
@@ -83,14 +83,14 @@ fn work_through<J: LogName, K: ReplicasName, G: Gate, R: Wait>(
         let item = team.call(rt, pen, pass, thread, script[done]);
         note(said, item);
         match item {
-            Said::Answer(_, _) => {}
-            Said::Stopped => return,
+            CallOutcome::Answer(_, _) => {}
+            CallOutcome::Stopped => return,
         }
     }
 }
 
 /// Adds an item, for which there is room.
-fn note(said: &mut Vec<Said>, item: Said)
+fn note(said: &mut Vec<CallOutcome>, item: CallOutcome)
     requires { vec_len said.old < vec_capacity said.old }
     ensures { (said.new.items ≡ said.old.items ++ item ∷ [])
         × (vec_capacity said.old ≤ vec_capacity said.new) }

@@ -8,7 +8,7 @@ ghost use Rattle.nr_replicas.specs.Replicas.{HasHeard};
 ghost use Rattle.nr_serve.specs.inside.Calls.{IsTrueAt};
 ghost use Rattle.nr_serve.specs.inside.Working.{HasCalled, IsNamed};
 
-use crate::endings::said::Said;
+use crate::endings::call_outcome::CallOutcome;
 use nr_record::{Clock, Pen};
 use nr_replicas::{Gate, Point, Replicas, ReplicasName, Signal};
 use nr_ring::{LogName, LogPass};
@@ -44,7 +44,7 @@ impl<J: LogName, K: ReplicasName, G: Gate> Team<'_, J, K, G> {
         pass: &mut LogPass<J>,
         thread: u16,
         request: Request,
-    ) -> Said
+    ) -> CallOutcome
         requires layout { self.now.replicas.now ≡ self.now.clock.now.layout }
         requires names { IsNamed self.now.clock.now.layout self.now.base J.depth J.replicas K.tables
             K.base }
@@ -61,19 +61,19 @@ impl<J: LogName, K: ReplicasName, G: Gate> Team<'_, J, K, G> {
         pass.has_seen_a_history();
         let number = pen.call(self.clock, request);
         if self.gate.at(thread, Point::Called) == Signal::Stop {
-            return Said::Stopped;
+            return CallOutcome::Stopped;
         }
         let Some((reached, answer)) = self.ask(rt, pass, thread, number, request) else {
-            return Said::Stopped;
+            return CallOutcome::Stopped;
         };
         let Some(at) = place_behind(self.base, reached) else {
-            return Said::Stopped;
+            return CallOutcome::Stopped;
         };
         if self.gate.at(thread, Point::Answered) == Signal::Stop {
-            return Said::Stopped;
+            return CallOutcome::Stopped;
         }
         pen.reply(self.clock, at, answer);
-        Said::Answer(at, answer)
+        CallOutcome::Answer(at, answer)
     }
 
     /// Has the replicas answer a call: where it was reached, and the answer.

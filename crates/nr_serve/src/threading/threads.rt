@@ -9,8 +9,8 @@ ghost use Rattle.nr_serve.specs.inside.Ending.{passes_of};
 ghost use Rattle.vs_types.specs.Query.{AreScripts};
 ghost use Rattle.nr_serve.specs.inside.Working.{IsDone, IsNamed, IsReadyJob, jobs_from};
 
+use crate::endings::call_outcome::CallOutcome;
 use crate::endings::promise::Finished;
-use crate::endings::said::Said;
 use crate::instances::no_thread::NoThread;
 use crate::threading::job::Job;
 use crate::threading::team::Team;

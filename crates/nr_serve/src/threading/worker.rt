@@ -1,6 +1,6 @@
 //! What a thread of a run hands back.
 
-use crate::endings::said::Said;
+use crate::endings::call_outcome::CallOutcome;
 use nr_record::Pen;
 use nr_ring::{LogName, LogPass};
 use std::marker::Model;
@@ -10,7 +10,7 @@ use std::marker::Model;
 pub(crate) struct Worker<J: LogName> {
     pub(crate) pen: Pen,
     pub(crate) pass: LogPass<J>,
-    pub(crate) said: Vec<Said>,
+    pub(crate) said: Vec<CallOutcome>,
 }
 
 impl<J: LogName> Model for Worker<J> {

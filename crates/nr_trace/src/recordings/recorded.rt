@@ -14,7 +14,7 @@ use vs_types::{Access, Action, Answer, Mode, Op, Page, Query, Request, Rights, S
 /// An event with one tag. Fields lie as they are written here, so that none has more than 24 bytes; and a call has its replica
 /// and thread, a reply its call and `at`, at the same bytes in each case.
 #[derive(Clone, Copy, PartialEq, Eq)]
-enum Kept {
+enum PackedEvent {
     /// Replica, thread, size, rights, base, physical address.
     Map(u8, u16, Size, Rights, u64, u64),
     /// Replica, thread, base.
@@ -53,16 +53,16 @@ enum Kept {
 
 const _: () = prove!(size_of::<Recorded>() == 24);
 
-impl Kept {
-    ghost use Rattle.nr_trace.specs.inside.Kept.{event_of};
+impl PackedEvent {
+    ghost use Rattle.nr_trace.specs.inside.PackedEvent.{event_of};
 
     #[inline(always)]
-    fn update(replica: u8, thread: u16, action: Action) -> Kept
+    fn update(replica: u8, thread: u16, action: Action) -> PackedEvent
         ensures { event_of result ≡ Event.Call replica thread (Asked.Request (query.Update action)) }
     {
         match action {
             Action::Map(page) => {
-                Kept::Map(
+                PackedEvent::Map(
                     replica,
                     thread,
                     page.size,
@@ -71,52 +71,54 @@ impl Kept {
                     page.phys,
                 )
             }
-            Action::Unmap(base) => Kept::Unmap(replica, thread, base),
-            Action::Protect(base, rights) => Kept::Protect(replica, thread, rights, base),
+            Action::Unmap(base) => PackedEvent::Unmap(replica, thread, base),
+            Action::Protect(base, rights) => PackedEvent::Protect(replica, thread, rights, base),
         }
     }
 
     #[inline(always)]
-    fn call(replica: u8, thread: u16, request: Request) -> Kept
+    fn call(replica: u8, thread: u16, request: Request) -> PackedEvent
         ensures { event_of result ≡ Event.Call replica thread (Asked.Request request) }
     {
         match request.query() {
-            Query::Update(op) => Kept::update(replica, thread, op.action()),
-            Query::Resolve(address) => Kept::Resolve(replica, thread, address),
+            Query::Update(op) => PackedEvent::update(replica, thread, op.action()),
+            Query::Resolve(address) => PackedEvent::Resolve(replica, thread, address),
             Query::Access(address, mode, access) => {
-                Kept::Access(replica, thread, mode, access, address)
+                PackedEvent::Access(replica, thread, mode, access, address)
             }
         }
     }
 
     #[inline(always)]
-    fn asked(replica: u8, thread: u16, asked: Asked) -> Kept
+    fn asked(replica: u8, thread: u16, asked: Asked) -> PackedEvent
         ensures { event_of result ≡ Event.Call replica thread asked }
     {
         match asked {
-            Asked::Request(request) => Kept::call(replica, thread, request),
+            Asked::Request(request) => PackedEvent::call(replica, thread, request),
             Asked::Touch(address, mode, access) => {
-                Kept::Touch(replica, thread, mode, access, address)
+                PackedEvent::Touch(replica, thread, mode, access, address)
             }
-            Asked::Release(size, phys) => Kept::Release(replica, thread, size, phys),
+            Asked::Release(size, phys) => PackedEvent::Release(replica, thread, size, phys),
         }
     }
 
     #[inline(always)]
-    fn reply(call: u32, at: u32, answer: Answer) -> Kept
+    fn reply(call: u32, at: u32, answer: Answer) -> PackedEvent
         ensures { event_of result ≡ Event.Reply call at answer }
     {
         match answer {
-            Answer::Done => Kept::Done(call, at),
-            Answer::Overlap(base) => Kept::Overlap(call, at, base),
-            Answer::Full(need) => Kept::Full(call, at, need),
-            Answer::Removed(phys, size, rights) => Kept::Removed(size, call, at, rights, phys),
-            Answer::NotMapped => Kept::NotMapped(call, at),
-            Answer::Inside(base) => Kept::Inside(call, at, base),
-            Answer::Changed(rights) => Kept::Changed(call, at, rights),
-            Answer::Mapped(phys, size, rights) => Kept::Mapped(size, call, at, rights, phys),
-            Answer::Allowed(phys) => Kept::Allowed(call, at, phys),
-            Answer::Fault(code) => Kept::Fault(call, at, code),
+            Answer::Done => PackedEvent::Done(call, at),
+            Answer::Overlap(base) => PackedEvent::Overlap(call, at, base),
+            Answer::Full(need) => PackedEvent::Full(call, at, need),
+            Answer::Removed(phys, size, rights) => PackedEvent::Removed(
+                size, call, at, rights, phys,
+            ),
+            Answer::NotMapped => PackedEvent::NotMapped(call, at),
+            Answer::Inside(base) => PackedEvent::Inside(call, at, base),
+            Answer::Changed(rights) => PackedEvent::Changed(call, at, rights),
+            Answer::Mapped(phys, size, rights) => PackedEvent::Mapped(size, call, at, rights, phys),
+            Answer::Allowed(phys) => PackedEvent::Allowed(call, at, phys),
+            Answer::Fault(code) => PackedEvent::Fault(call, at, code),
         }
     }
 }
@@ -158,7 +160,7 @@ fn reply_of(call: u32, at: u32, answer: Answer) -> Event
 /// An event as a trace keeps it, in 24 bytes. Contracts see the event.
 #[derive(Clone, Copy, PartialEq, Eq)]
 pub struct Recorded {
-    kept: Kept,
+    kept: PackedEvent,
 }
 
 impl fmt::Debug for Recorded {
@@ -169,7 +171,7 @@ impl fmt::Debug for Recorded {
 
 impl Model for Recorded {
     ghost use Rattle.nr_trace.specs.declared.recordings.event.Event.{Event};
-    ghost use Rattle.nr_trace.specs.inside.Kept.{event_of, kept_of, same_kept, IsKept};
+    ghost use Rattle.nr_trace.specs.inside.PackedEvent.{event_of, kept_of, same_kept, IsKept};
 
     ghost Value = { Event };
 
@@ -194,10 +196,10 @@ impl Recorded {
                 thread,
                 asked,
             } => Recorded {
-                kept: Kept::asked(replica, thread, asked),
+                kept: PackedEvent::asked(replica, thread, asked),
             },
             Event::Reply { call, at, answer } => Recorded {
-                kept: Kept::reply(call, at, answer),
+                kept: PackedEvent::reply(call, at, answer),
             },
         }
     }
@@ -208,7 +210,7 @@ impl Recorded {
         ensures { result ≡ self }
     {
         match self.kept {
-            Kept::Map(replica, thread, size, rights, base, phys) => {
+            PackedEvent::Map(replica, thread, size, rights, base, phys) => {
                 let page = Page {
                     base,
                     phys,
@@ -217,36 +219,40 @@ impl Recorded {
                 };
                 update_of(replica, thread, Action::Map(page))
             }
-            Kept::Unmap(replica, thread, base) => update_of(replica, thread, Action::Unmap(base)),
-            Kept::Protect(replica, thread, rights, base) => {
+            PackedEvent::Unmap(replica, thread, base) => update_of(
+                replica,
+                thread,
+                Action::Unmap(base),
+            ),
+            PackedEvent::Protect(replica, thread, rights, base) => {
                 update_of(replica, thread, Action::Protect(base, rights))
             }
-            Kept::Resolve(replica, thread, address) => {
+            PackedEvent::Resolve(replica, thread, address) => {
                 call_of(replica, thread, Query::Resolve(address))
             }
-            Kept::Access(replica, thread, mode, access, address) => {
+            PackedEvent::Access(replica, thread, mode, access, address) => {
                 call_of(replica, thread, Query::Access(address, mode, access))
             }
-            Kept::Touch(replica, thread, mode, access, address) => {
+            PackedEvent::Touch(replica, thread, mode, access, address) => {
                 made(replica, thread, Asked::Touch(address, mode, access))
             }
-            Kept::Release(replica, thread, size, phys) => {
+            PackedEvent::Release(replica, thread, size, phys) => {
                 made(replica, thread, Asked::Release(size, phys))
             }
-            Kept::Done(call, at) => reply_of(call, at, Answer::Done),
-            Kept::Overlap(call, at, base) => reply_of(call, at, Answer::Overlap(base)),
-            Kept::Full(call, at, need) => reply_of(call, at, Answer::Full(need)),
-            Kept::Removed(size, call, at, rights, phys) => {
+            PackedEvent::Done(call, at) => reply_of(call, at, Answer::Done),
+            PackedEvent::Overlap(call, at, base) => reply_of(call, at, Answer::Overlap(base)),
+            PackedEvent::Full(call, at, need) => reply_of(call, at, Answer::Full(need)),
+            PackedEvent::Removed(size, call, at, rights, phys) => {
                 reply_of(call, at, Answer::Removed(phys, size, rights))
             }
-            Kept::NotMapped(call, at) => reply_of(call, at, Answer::NotMapped),
-            Kept::Inside(call, at, base) => reply_of(call, at, Answer::Inside(base)),
-            Kept::Changed(call, at, rights) => reply_of(call, at, Answer::Changed(rights)),
-            Kept::Mapped(size, call, at, rights, phys) => {
+            PackedEvent::NotMapped(call, at) => reply_of(call, at, Answer::NotMapped),
+            PackedEvent::Inside(call, at, base) => reply_of(call, at, Answer::Inside(base)),
+            PackedEvent::Changed(call, at, rights) => reply_of(call, at, Answer::Changed(rights)),
+            PackedEvent::Mapped(size, call, at, rights, phys) => {
                 reply_of(call, at, Answer::Mapped(phys, size, rights))
             }
-            Kept::Allowed(call, at, phys) => reply_of(call, at, Answer::Allowed(phys)),
-            Kept::Fault(call, at, code) => reply_of(call, at, Answer::Fault(code)),
+            PackedEvent::Allowed(call, at, phys) => reply_of(call, at, Answer::Allowed(phys)),
+            PackedEvent::Fault(call, at, code) => reply_of(call, at, Answer::Fault(code)),
         }
     }
 }

@@ -5,22 +5,22 @@ ghost use Rattle.nrvs.specs.RunText.{said_line, said_lines, refused_text, said_t
 
 use audit_texts::{fault_text, push_answer};
 use itoa::Buffer;
-use nr_serve::Said;
+use nr_serve::CallOutcome;
 use nr_trace::Fault;
 use std::alloc::{AllocError, Global};
 
 /// Adds what came of a call.
-fn push_said(text: &mut String, said: Said) -> Result<(), AllocError>
+fn push_said(text: &mut String, said: CallOutcome) -> Result<(), AllocError>
     ensures { OnOk result (string_bytes text.new ≡ string_bytes text.old ++ said_text said) }
 {
     match said {
-        Said::Answer(_, answer) => push_answer(text, answer),
-        Said::Stopped => text.push_str("stopped"),
+        CallOutcome::Answer(_, answer) => push_answer(text, answer),
+        CallOutcome::Stopped => text.push_str("stopped"),
     }
 }
 
 /// Adds the line of a call.
-fn push_call(text: &mut String, thread: usize, said: Said) -> Result<(), AllocError>
+fn push_call(text: &mut String, thread: usize, said: CallOutcome) -> Result<(), AllocError>
     ensures { OnOk result (string_bytes text.new ≡ string_bytes text.old ++ said_line thread said) }
 {
     text.push_str(Buffer::new().format(thread))?;
@@ -30,7 +30,7 @@ fn push_call(text: &mut String, thread: usize, said: Said) -> Result<(), AllocEr
 }
 
 /// Adds the lines of a thread's calls.
-fn push_thread(text: &mut String, thread: usize, said: &[Said]) -> Result<(), AllocError>
+fn push_thread(text: &mut String, thread: usize, said: &[CallOutcome]) -> Result<(), AllocError>
     ensures { OnOk result
         (string_bytes text.new ≡ string_bytes text.old ++ flat_map (said_line thread) said.now) }
 {
@@ -41,7 +41,7 @@ fn push_thread(text: &mut String, thread: usize, said: &[Said]) -> Result<(), Al
 }
 
 /// The lines of all threads' calls. Allocates memory for the text.
-pub(crate) fn said_lines(alloc: Global, threads: &[Vec<Said>]) -> Result<String, AllocError>
+pub(crate) fn said_lines(alloc: Global, threads: &[Vec<CallOutcome>]) -> Result<String, AllocError>
     ensures { IfOk result (λ text.
         string_bytes text ≡ said_lines (map (λ said. said.items) threads.now)) }
 {
@@ -53,7 +53,10 @@ pub(crate) fn said_lines(alloc: Global, threads: &[Vec<Said>]) -> Result<String,
 }
 
 /// The lines of a verified run. Allocates memory for the text.
-pub(crate) fn verified_text(alloc: Global, threads: &[Vec<Said>]) -> Result<String, AllocError>
+pub(crate) fn verified_text(
+    alloc: Global,
+    threads: &[Vec<CallOutcome>],
+) -> Result<String, AllocError>
     ensures { IfOk result (λ text.
         string_bytes text ≡ verified_text (map (λ said. said.items) threads.now)) }
 {

@@ -1,6 +1,6 @@
 use Rattle.std.proofs.Common.{◌≡◌, ◌<◌, ◌++◌, List, [], ◌∷◌, length, ap, sym, subst, ◌∙◌, arith}
 use Rattle.std.proofs.Math.Seq.{take-length}
-use Rattle.nr_node.specs.inside.Told.{Told}
+use Rattle.nr_node.specs.inside.AppliedEntry.{AppliedEntry}
 use Rattle.vs_types.specs.Step.{step}
 use Rattle.vs_space.specs.Table.{IsTableStep}
 use Rattle.vs_types.specs.declared.log_entry.LogEntry.{LogEntry}
@@ -12,7 +12,7 @@ use Rattle.nr_node.proofs.replica.Replica.apply.Goals as goal
 pub invariant_of-self : goal.invariant_of-self
 invariant_of-self g c =
     let told = c.self.inside.told.items in
-    let t : Told = record { entry = c.args.entry; answer = c.apply-answer.result } in
+    let t : AppliedEntry = record { entry = c.args.entry; answer = c.apply-answer.result } in
     let past = c.self.inside.past.entries in
     let few : length told < most_kept = omega (
       arith,
@@ -22,11 +22,11 @@ invariant_of-self g c =
       as_many past told,
       c.self.invariant.base_is,
     ) in
-    let P : List Told → Type 0 =
+    let P : List AppliedEntry → Type 0 =
     λ l. IsReplica c.apply-answer.new.self c.self.inside.past.count past l
     (Rattle.std.specs.Vec.vec_capacity c.push_reserved.new.self) in
     let Steps : LogEntry → Type 0 = λ e. IsTableStep c.self.inside.space e.op c.apply-answer.result c.apply-answer.new.self in
-    subst P (sym (c.push_reserved.ensures.items ∙ ap (λ (u : Told). told ++ u ∷ []) c.new.ensures))
+    subst P (sym (c.push_reserved.ensures.items ∙ ap (λ (u : AppliedEntry). told ++ u ∷ []) c.new.ensures))
     (one_more c.self.inside.space c.apply-answer.new.self c.self.inside.past.count past told t _ _ c.self.invariant
     (subst Steps c.entry-op.ensures.is c.apply-answer.ensures) few
     c.push_reserved.ensures.capacity)

@@ -4,7 +4,7 @@ use Rattle.nr_trace.specs.declared.refusals.fault.Fault.{Fault}
 use Rattle.nr_audit.specs.Faults.{IsFirstAfter}
 use Rattle.nr_ring.specs.Pass.{Known, TableId}
 use Rattle.nr_serve.specs.SegmentRun.{layout_so_far, IsAnswer}
-use Rattle.nr_serve.specs.declared.endings.said.Said.{Said}
+use Rattle.nr_serve.specs.declared.endings.call_outcome.CallOutcome.{CallOutcome}
 use Rattle.nr_serve.specs.inside.Calls.{since}
 use Rattle.nr_serve.specs.inside.Segment.{state_with}
 use Rattle.nr_serve.proofs.Segments.{failed_as, fits_after, fitting_frames, gone_as, has_gone, is_wrong, laid_as_before, made_segment, same_state, still_fits}
@@ -40,7 +40,7 @@ returns-in-Ok g c = λ before scripts served.
     let cut = c.in_ok-cut.ensures in
     let written = c.in_ok-trace.ensures in
     let parts = c.args.parts in
-    let answers : List (List Said) = map (λ said. said.items) parts.answers.items in
+    let answers : List (List CallOutcome) = map (λ said. said.items) parts.answers.items in
     let trace = c.in_ok-trace.field-0.trace in
     let bytes = c.in_ok-trace.field-0.bytes.items in
     let new = c.in_ok-cut.passes.items in
@@ -66,7 +66,7 @@ returns g c = λ before scripts served.
     let cut = c.in_ok-cut.ensures in
     let written = c.in_ok-trace.ensures in
     let parts = c.args.parts in
-    let answers : List (List Said) = map (λ said. said.items) parts.answers.items in
+    let answers : List (List CallOutcome) = map (λ said. said.items) parts.answers.items in
     let trace = c.in_ok-trace.field-0.trace in
     let bytes = c.in_ok-trace.field-0.bytes.items in
     let made = made_segment g.J.LogName.depth g.J.LogName.replicas c.args.clock of c.args.replicas layout past before scripts parts.pens.items

@@ -2,7 +2,7 @@ use Rattle.std.proofs.Common.{List, All, map, sym, subst, ◌∙◌}
 use Rattle.nr_trace.specs.declared.refusals.fault.Fault.{Fault}
 use Rattle.nr_audit.specs.Faults.{IsFirstAfter}
 use Rattle.nr_serve.specs.SegmentRun.{layout_so_far, IsAnswer}
-use Rattle.nr_serve.specs.declared.endings.said.Said.{Said}
+use Rattle.nr_serve.specs.declared.endings.call_outcome.CallOutcome.{CallOutcome}
 use Rattle.nr_serve.specs.inside.Calls.{since}
 use Rattle.nr_serve.specs.inside.Segment.{state_with}
 use Rattle.nr_serve.proofs.Segments.{all_unmapped, ended_as, failed_as, fitting_frames, has_ended, is_wrong, laid_as_before, made_segment, still_fits}
@@ -25,7 +25,7 @@ returns-in-Ok g c = λ before scripts served.
     let settled = c.in_ok-calls.ensures in
     let written = c.in_ok-trace.ensures in
     let parts = c.args.parts in
-    let answers : List (List Said) = map (λ said. said.items) parts.answers.items in
+    let answers : List (List CallOutcome) = map (λ said. said.items) parts.answers.items in
     let trace = c.in_ok-trace.field-0.trace in
     let bytes = c.in_ok-trace.field-0.bytes.items in
     let history = settled.settled.history in
@@ -48,7 +48,7 @@ returns g c = λ before scripts served.
     let settled = c.in_ok-calls.ensures in
     let written = c.in_ok-trace.ensures in
     let parts = c.args.parts in
-    let answers : List (List Said) = map (λ said. said.items) parts.answers.items in
+    let answers : List (List CallOutcome) = map (λ said. said.items) parts.answers.items in
     let trace = c.in_ok-trace.field-0.trace in
     let bytes = c.in_ok-trace.field-0.bytes.items in
     let history = settled.settled.history in

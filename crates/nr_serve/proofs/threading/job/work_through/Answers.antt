@@ -3,7 +3,7 @@ use Rattle.nr_ring.proofs.Histories.{begins as begins_further}
 use Rattle.nr_ring.proofs.Views.{whole}
 use Rattle.nr_serve.specs.SegmentRun.{IsAnswer}
 use Rattle.nr_serve.specs.inside.Calls.{IsServed, since}
-use Rattle.nr_serve.specs.declared.endings.said.Said.{Said}
+use Rattle.nr_serve.specs.declared.endings.call_outcome.CallOutcome.{CallOutcome}
 use Rattle.nr_serve.specs.inside.Working.{IsUnderWay}
 use Rattle.nr_serve.proofs.Working.{IsNext, begins, ends, goes_on, named_heard, named_history, stops}
 use Rattle.nr_serve.proofs.threading.job.work_through.Goals as goal
@@ -19,7 +19,7 @@ loop-done-init g c =
     let of = since g.K.ReplicasName.log g.K.ReplicasName.base in
     let history = named_history clock.layout c.args.team.now.base depth replicas tables g.K.ReplicasName.base c.args.pass.now.view.seen
     c.requires.names c.has_seen_a_history.ensures.history in
-    let Here : List Said → Type 0 = λ l. IsUnderWay clock of c.args.thread c.args.script.now 0 c.args.pen.now c.args.pass.now l in (
+    let Here : List CallOutcome → Type 0 = λ l. IsUnderWay clock of c.args.thread c.args.script.now 0 c.args.pen.now c.args.pass.now l in (
       subst Here (sym c.requires.said.0) (begins clock of c.args.thread c.args.script.now c.args.pen.now c.args.pass.now c.requires.ready history),
       c.requires.said.1,
       whole c.args.pass.now.view.seen,
@@ -46,7 +46,7 @@ returns-in-Stopped g c =
     let of = since g.K.ReplicasName.log g.K.ReplicasName.base in
     let was = c.loop-done in
     let made = c.call-item.new in
-    let Here : List Said → Type 0 =
+    let Here : List CallOutcome → Type 0 =
     λ l. IsServed clock of c.args.thread c.args.script.now (record { pen = made.pen; pass = made.pass; said = l }) in
     record {
       served = subst Here (sym c.note.ensures.0) (stops clock of c.args.thread c.args.script.now was.done c.index-script-done.result was.pen made.pen was.pass
@@ -61,7 +61,7 @@ loop-done-preserved g c =
     let was = c.loop-done in
     let made = c.call-item.new in
     let answered : IsAnswer c.call-item.result = subst IsAnswer (sym c.in-Answer.is) tt in
-    let Here : List Said → Type 0 = λ l. IsUnderWay clock of c.args.thread c.args.script.now (was.done + 1) made.pen made.pass l in (
+    let Here : List CallOutcome → Type 0 = λ l. IsUnderWay clock of c.args.thread c.args.script.now (was.done + 1) made.pen made.pass l in (
       subst Here (sym c.note.ensures.0) (goes_on clock of c.args.thread c.args.script.now was.done c.index-script-done.result was.pen made.pen was.pass
           made.pass was.said.items c.call-item.result (next g (goal.at.loop-done-preserved g c).After-note) answered),
       omega (arith, was.invariant.1, c.note.ensures.1),

@@ -8,7 +8,7 @@ use Rattle.nr_ring.specs.Pass.{Known, TableId}
 use Rattle.nr_record.specs.Pen.{AreAllPens}
 use Rattle.nr_serve.specs.ChainOfRun.{IsOutcomeOf}
 use Rattle.nr_serve.specs.RunState.{RunState}
-use Rattle.nr_serve.specs.declared.endings.said.Said.{Said}
+use Rattle.nr_serve.specs.declared.endings.call_outcome.CallOutcome.{CallOutcome}
 use Rattle.nr_serve.specs.inside.Calls.{WorkerState, since}
 use Rattle.nr_serve.proofs.Segments.{comes_of, same_state}
 use Rattle.nr_serve.proofs.Teams.{all_few, all_of_log, all_pens, quotas_of_scripts}
@@ -55,7 +55,7 @@ returns-in-Ok g c =
     let scripts : List (List Query) = map (λ script. script.items) c.args.scripts.items in
     let parts = c.in_ok-parts-in-Ok.ensures in
     let handed_back = c.in_ok-parts-in-Ok.parts in
-    let answers : List (List Said) = map (λ said. said.items) handed_back.answers.items in
+    let answers : List (List CallOutcome) = map (λ said. said.items) handed_back.answers.items in
     subst (λ (state : RunState). IfOk c.segment_ending.result (IsOutcomeOf state scripts))
     (same_state of (since between.opened.log between.opened.base) before between.config between.past (sym c.requires.log.0) (sym c.requires.log.1))
     (comes_of c.segment_ending.result c.in_ok-clock.clock of between.config between.past handed_back.pens.items handed_back.passes.items answers before

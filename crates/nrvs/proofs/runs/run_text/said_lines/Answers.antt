@@ -1,6 +1,6 @@
 use Rattle.std.proofs.Common.{◌≡◌, ℕ, suc, ◌+◌, ◌++◌, List, ap, ap₂, sym, ◌∙◌, get_or, take, arith}
 use Rattle.std.specs.List.{flat_map}
-use Rattle.nr_serve.specs.declared.endings.said.Said.{Said}
+use Rattle.nr_serve.specs.declared.endings.call_outcome.CallOutcome.{CallOutcome}
 use Rattle.nrvs.specs.RunText.{said_line, thread_lines}
 use Rattle.nrvs.proofs.RunTexts.{lines_of, next_lines}
 use Rattle.nrvs.proofs.runs.run_text.said_lines.Goals as goal
@@ -16,6 +16,6 @@ loop-thread-preserved c =
     let more : suc thread ≡ thread + 1 = omega arith in
     let next = next_lines (λ said. said.items) 0 thread threads called c.loop-thread-test.true in
     c.in_ok-push_thread.ensures
-    ∙ ap₂ (λ (lines : List ℕ) (said : List Said). lines ++ flat_map (said_line thread) said) c.loop-thread.invariant items_are
+    ∙ ap₂ (λ (lines : List ℕ) (said : List CallOutcome). lines ++ flat_map (said_line thread) said) c.loop-thread.invariant items_are
     ∙ ap (λ (k : ℕ). before ++ thread_lines (k, (get_or threads thread called).items)) counted
     ∙ sym next ∙ ap (λ (k : ℕ). lines_of (λ said. said.items) 0 (take k threads)) more

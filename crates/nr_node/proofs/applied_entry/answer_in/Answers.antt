@@ -1,9 +1,9 @@
 use Rattle.std.proofs.Common.{ℕ, ◌/◌, ◌%◌, ap, sym, ◌∙◌, arith}
 use Rattle.vs_types.specs.inside.Telling.{rights_in, size_in}
 use Rattle.vs_types.specs.declared.requests.answer.Answer.TheVariants.{Changed, Mapped, Removed}
-use Rattle.nr_node.specs.inside.Told.{answer_of}
+use Rattle.nr_node.specs.inside.AppliedEntry.{answer_of}
 use Rattle.nr_node.proofs.Tellings.{fault_above}
-use Rattle.nr_node.proofs.told.answer_in.Goals as goal
+use Rattle.nr_node.proofs.applied_entry.answer_in.Goals as goal
 
 pub returns-in-0 : goal.returns-in-0
 unfolding answer_of

@@ -5,9 +5,9 @@ use Rattle.vs_types.specs.declared.addresses.depth.Depth.TheVariants.{Five}
 use Rattle.vs_types.specs.declared.log_entry.LogEntry.{LogEntry}
 use Rattle.vs_types.proofs.OneEntry.{spells_told, tells_it}
 use Rattle.nr_ring.proofs.Fetches.{rest_low}
-use Rattle.nr_node.specs.inside.Told.{answer_in, codes_of, entry_words}
+use Rattle.nr_node.specs.inside.AppliedEntry.{answer_in, codes_of, entry_words}
 use Rattle.nr_node.proofs.Tellings.{above, answer_again}
-use Rattle.nr_node.proofs.told.Told.new.Goals as goal
+use Rattle.nr_node.proofs.applied_entry.AppliedEntry.new.Goals as goal
 
 -- the entry's words lie below the codes
 entry_below : (words : List ℕ) (entry : LogEntry) (codes : ℕ) → words ≡ log_words entry → slice_index (log_words entry) 1 < 2 ^ 56

@@ -1,7 +1,7 @@
 //! What a replica keeps of an entry that it has applied.
 ghost use Rattle.std.specs.Prelude.{◌≡◌, ◌<◌};
 ghost use Rattle.vs_types.specs.inside.Telling.{rights_in, size_in};
-ghost use Rattle.nr_node.specs.inside.Told.{answer_in, codes_of, field_codes, number_of};
+ghost use Rattle.nr_node.specs.inside.AppliedEntry.{answer_in, codes_of, field_codes, number_of};
 
 use nr_ring::PackedEntry;
 use std::marker::Model;
@@ -14,34 +14,34 @@ const CODES_UNIT: u64 = 1 << 56;
 /// An entry of the log with what it was answered: the two words of the entry, of which the second has the codes of the answer above its 56
 /// bits, and the number of the answer. Contracts see the entry and the answer.
 #[derive(Drop)]
-pub(crate) struct Told {
+pub(crate) struct AppliedEntry {
     words: [u64; 2],
     number: u64,
 }
 
-const _: () = prove!(size_of::<Told>() == 24);
+const _: () = prove!(size_of::<AppliedEntry>() == 24);
 
-impl Model for Told {
+impl Model for AppliedEntry {
     ghost use Rattle.vs_types.specs.LogEntry.{SpellsEntry};
     ghost use Rattle.vs_types.specs.declared.addresses.depth.Depth.TheVariants.{Five};
-    ghost use Rattle.nr_node.specs.inside.Told.{Told, entry_kept, entry_words, told_in};
+    ghost use Rattle.nr_node.specs.inside.AppliedEntry.{AppliedEntry, entry_kept, entry_words, told_in};
 
-    ghost Value = { Told };
+    ghost Value = { AppliedEntry };
 
     ghost view = { λ t. told_in t.words t.number };
 
     ghost invariant = { λ t. SpellsEntry Five (entry_words t.words) (entry_kept t.words) };
 }
 
-impl Told {
+impl AppliedEntry {
     /// An entry that was answered so.
     #[inline(always)]
-    pub(crate) fn new(entry: PackedEntry, answer: Answer) -> Told
+    pub(crate) fn new(entry: PackedEntry, answer: Answer) -> AppliedEntry
         ensures { result ≡ record { entry = entry; answer = answer } }
     {
         let words = entry.words();
         let codes = codes_of(answer);
-        Told {
+        AppliedEntry {
             words: [words[0], words[1] + codes * CODES_UNIT],
             number: number_of(answer),
         }

@@ -10,7 +10,7 @@ use Rattle.vs_types.specs.declared.addresses.page.Size.{Size}
 use Rattle.vs_types.specs.declared.addresses.page.Size.TheVariants.{K4}
 
 -- an entry with what it was answered
-pub record Told : Type 0 where
+pub record AppliedEntry : Type 0 where
   pub entry : LogEntry
   pub answer : Answer
 
@@ -65,5 +65,5 @@ entry_words words = slice_index words 0 ∷ (slice_index words 1 % 2 ^ 56) ∷ [
 abbrev pub entry_kept : List ℕ → LogEntry
 entry_kept words = entry_in (entry_words words)
 
-abbrev pub told_in : List ℕ → ℕ → Told
+abbrev pub told_in : List ℕ → ℕ → AppliedEntry
 told_in words number = record { entry = entry_kept words; answer = answer_in (slice_index words 1 / 2 ^ 56) number }

@@ -1,7 +1,7 @@
 use Rattle.std.proofs.Common.{ap, sym, arith}
 use Rattle.vs_types.specs.inside.Telling.{size_in}
 use Rattle.vs_types.proofs.Telling.{size_above}
-use Rattle.nr_node.proofs.told.size_in.Goals as goal
+use Rattle.nr_node.proofs.applied_entry.size_in.Goals as goal
 
 pub returns-in-0 : goal.returns-in-0
 unfolding size_in

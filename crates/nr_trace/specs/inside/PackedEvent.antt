@@ -8,11 +8,11 @@ use Rattle.vs_types.specs.declared.requests.answer.Answer.TheVariants.{Done, Ove
 use Rattle.nr_trace.specs.declared.recordings.event.Event.{Event}
 use Rattle.nr_trace.specs.declared.recordings.event.Event.TheVariants.{Call, Reply}
 use Rattle.nr_trace.specs.declared.recordings.event.Asked.TheVariants.{Request, Release, Touch}
-use Rattle.nr_trace.specs.declared.recordings.recorded.Kept.{Kept}
-use Rattle.nr_trace.specs.declared.recordings.recorded.Kept.TheVariants as kept
+use Rattle.nr_trace.specs.declared.recordings.recorded.PackedEvent.{PackedEvent}
+use Rattle.nr_trace.specs.declared.recordings.recorded.PackedEvent.TheVariants as kept
 use Rattle.nr_trace.specs.declared.recordings.recorded.Recorded.TheInside as of_recorded
 
-abbrev pub event_of : Kept → Event
+abbrev pub event_of : PackedEvent → Event
 event_of (kept.Map replica thread size rights base phys) =
     Call replica thread (Request (Update (Map (record { base = base; phys = phys; size = size; rights = rights }))))
 event_of (kept.Unmap replica thread base) = Call replica thread (Request (Update (Unmap base)))
@@ -32,7 +32,7 @@ event_of (kept.Mapped size call at rights phys) = Reply call at (Mapped phys siz
 event_of (kept.Allowed call at phys) = Reply call at (Allowed phys)
 event_of (kept.Fault call at code) = Reply call at (Fault code)
 
-abbrev pub kept_of : Event → Kept
+abbrev pub kept_of : Event → PackedEvent
 kept_of (Call replica thread (Request (Update (Map page)))) = kept.Map replica thread page.size page.rights page.base page.phys
 kept_of (Call replica thread (Request (Update (Unmap base)))) = kept.Unmap replica thread base
 kept_of (Call replica thread (Request (Update (Protect base rights)))) = kept.Protect replica thread rights base
@@ -56,7 +56,7 @@ abbrev pub IsKept : Event → Type 0
 IsKept (Call replica thread (Request request)) = IsSomeQuery request
 IsKept event = ⊤
 
-same : (k : Kept) → kept_of (event_of k) ≡ k
+same : (k : PackedEvent) → kept_of (event_of k) ≡ k
 same (kept.Map replica thread size rights base phys) = refl
 same (kept.Unmap replica thread base) = refl
 same (kept.Protect replica thread rights base) = refl

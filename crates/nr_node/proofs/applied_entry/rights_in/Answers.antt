@@ -1,7 +1,7 @@
 use Rattle.std.proofs.Common.{◌/◌, ◌%◌}
 use Rattle.vs_types.specs.inside.Telling.{rights_in}
 use Rattle.vs_types.proofs.Telling.{not_zero}
-use Rattle.nr_node.proofs.told.rights_in.Goals as goal
+use Rattle.nr_node.proofs.applied_entry.rights_in.Goals as goal
 
 pub returns : goal.returns
 unfolding rights_in
