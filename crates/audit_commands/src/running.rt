@@ -33,8 +33,8 @@ fn remark_form<R, E: Diagnostics>(
     }
 }
 
-/// Does the task on an input, and says on the errors why it has no answer, that fewer calls overlap than are asked for, and what the input
-/// is, if it is none of those that the task reads. The size is that of an input that is watched.
+/// Does the task on an input. On the errors it says why there is no answer, or that fewer calls overlap than are asked for. It also says
+/// there what the input is, if it is none of those that the task reads. The size is that of an input that is watched.
 fn run_task<R: Read, W: Sink, E: Diagnostics>(
     alloc: Global,
     task: Task<'_>,

@@ -66,9 +66,9 @@ pub fn explained_read(
     explanation_report(alloc, as_json, &explanation)
 }
 
-/// Reads a trace in blocks, judges it, and writes the verdict and, for a no, a sentence and what shows the fault, as lines or as one JSON
-/// object; the status is 0 where it is right, else 1. It stops reading as soon as a whole unit has a fault, or a byte is
-/// after the last unit. If it gives no answer, some input may have been read, and nothing was written but where that failed.
+/// Reads a trace in blocks, judges it, and writes the verdict. For a no it adds a sentence and what shows the fault, as lines or as one
+/// JSON object. The status is 0 where it is right, else 1. It stops reading as soon as a whole unit has a fault, or a byte is after the
+/// last unit. If it gives no answer, some input may have been read, and nothing was written but where that failed.
 ///
 /// # Errors
 ///

@@ -57,7 +57,7 @@ pub fn right_starts_translate()
         → TranslatesAs segment.layout.depth start.frames start.root (begins_in before segment) }
 {}
 
-/// A segment with a start that is right as the first one is right behind any run that leads to the space of its start; where it gives
+/// A segment with a start that is right as the first one is right behind any run that leads to the space of its start. Where it gives
 /// memory away, no address may still be found to look otherwise behind that run.
 pub fn segments_go_on_from_their_starts()
     ensures { (segment : Recording) (start : Image) (run : Run) → IsRecording segment

@@ -9,9 +9,9 @@ use crate::verdict::ChainVerdict;
 use std::alloc::Global;
 use vs_types::Memory;
 
-/// Whether bytes are those of a right chain: `Yes` with the order of each segment where all are right, else `No` with the orders of
-/// the segments before the first that is wrong, and its first fault: of the format, of what it says, or `Truncated` where the bytes
-/// end inside it, or there are none.
+/// Whether bytes are those of a right chain: `Yes` with the order of each segment where all are right. Else it is `No` with the
+/// orders of the segments before the first that is wrong, and its first fault. That is one of the format, of what it says, or
+/// `Truncated` where the bytes end inside it, or there are none.
 ///
 /// Allocates the orders, one segment and the space, and what `judge_segment` takes.
 ///

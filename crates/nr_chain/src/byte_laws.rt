@@ -20,10 +20,10 @@ pub fn one_thing_is_found()
         → GoesOnSo before bytes others other → (orders ≡ others) × (found ≡ other) }
 {}
 
-/// Two parts of a chain, each right by itself, of which the second has the layout of the first and begins with the pages of the space
-/// at the end of the first, are right as one, with the orders one after the other: where the second gives memory away, no address may still
-/// be found to look otherwise behind the first. What the whole has come to is what the second has come to, so that a third part may
-/// follow: and so of any number of parts, each of which may be judged elsewhere.
+/// Two parts of a chain are given, each right by itself. The second has the layout of the first and begins with the pages of the space at
+/// its end. They are right as one, with the orders one after the other. Where the second gives memory away, no address may still be found
+/// to look otherwise behind the first. What the whole has come to is what the second has come to, so that a third part may follow: and so
+/// of any number of parts, each of which may be judged elsewhere.
 pub fn parts_of_bytes_are_right_as_one()
     ensures comes { (before : Option Run) (bytes : List ℕ) (orders : List (List ℕ))
         → GoesOnSo before bytes orders None → (end : Run) × ComesTo before bytes end }

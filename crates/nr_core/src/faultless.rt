@@ -15,9 +15,9 @@ ghost use Rattle.nr_trace.specs.declared.refusals.fault.Fault.TheVariants.{Missi
 ghost use Rattle.nr_trace.specs.declared.refusals.fault.Fault.TheVariants.{ReservedBit, StrayFrame, Differs};
 ghost use Rattle.nr_core.specs.Faultless.{IsRecordingOfSteps};
 
-/// No thread makes a call while one is open, each reply answers a call before it, no call is answered twice, the log has nothing
-/// but updates and none twice, each answered update is at the place that its reply names, and no read saw more entries than the
-/// log has.
+/// No thread makes a call while one is open, each reply answers a call before it, and no call is answered twice. The log has
+/// nothing but updates and none twice. Each answered update is at the place that its reply names, and no read saw more entries
+/// than the log has.
 pub fn recorded_calls_are_well_formed()
     ensures { (trace : Recording) → IsRecordingOfSteps trace → HasCleanLog trace }
 {}

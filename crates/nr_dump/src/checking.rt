@@ -43,9 +43,9 @@ fn least_outside(dump: &Dump, numbers: &Reached) -> Option<u64>
 ///
 /// # Errors
 ///
-/// `Memory` where a growth was refused. Else the first fault: `MissingFrame`, `SharedFrame` or `ReservedBit`, the one
-/// that the traversal of the tables meets first; then `StrayFrame`, of the least frame; then `Differs`, at the least
-/// address, where the low half of the addresses comes before the high half.
+/// `Memory` where a growth was refused. Else the first fault. `MissingFrame`, `SharedFrame` and `ReservedBit` come
+/// first, the one that the traversal of the tables meets first. Then comes `StrayFrame`, of the least frame, and then
+/// `Differs`, at the least address, where the low half of the addresses comes before the high half.
 pub fn check(alloc: Global, dump: &Dump, space: &PlainSpace) -> Result<(), Fail<DumpFault>>
     ensures fits { OnOk result (FitsSpace space.now.depth dump.now space.now.space) }
     ensures faultless { OnOk result (HasNoFault space.now.depth dump.now space.now.space) }

@@ -1,5 +1,5 @@
-//! Dumps, each checked beside the space that its replica is to have: no table is missing, no table is reached twice, no
-//! reserved bit is set, no frame is left over, and every address is translated as the space says.
+//! Dumps, each checked against the space that its replica is to have. No table is missing, no table is reached twice,
+//! no reserved bit is set, no frame is left over, and every address is translated as the space says.
 #![tactic(auto)]
 
 mod checking;

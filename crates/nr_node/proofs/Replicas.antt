@@ -47,7 +47,8 @@ earlier told t u place lt e =
     ∙ ap Some (sym (get_or-append told (t ∷ []) u place lt) ∙ get_or_from_slice_get (told ++ t ∷ []) place u u e)
 
 -- the last one is at the end
-last : (told : List AppliedEntry) (t u : AppliedEntry) (place : ℕ) → length told ≤ place → slice_get (told ++ t ∷ []) place ≡ Some u → (place ≡ length told) × (t ≡ u)
+last : (told : List AppliedEntry) (t u : AppliedEntry) (place : ℕ) → length told ≤ place → slice_get (told ++ t ∷ []) place ≡ Some u
+    → (place ≡ length told) × (t ≡ u)
 last [] t u zero le e = (refl, cc)
 last [] t u (suc place) le e = absurd (omega (arith, slice_get_within (t ∷ []) (suc place) u e))
 last (x ∷ told) t u zero le e = absurd (omega arith)

@@ -117,7 +117,8 @@ none_stopped scripts answers each all = λ k items lt.
 
 -- what is known of a segment that was written, with the history of its log
 pub record IsMade (clock : ClockId) (of : Since) (layout : Layout) (past : Option Past) (before : List Known) (scripts : List (List Query))
-    (pens : List PenState) (passes : List Known) (answers : List (List CallOutcome)) (trace : Recording) (bytes : List ℕ) (history : List LogEvent) : Type 0 where
+    (pens : List PenState) (passes : List Known) (answers : List (List CallOutcome)) (trace : Recording) (bytes : List ℕ)
+    (history : List LogEvent) : Type 0 where
   pub of_clock : layout ≡ clock.layout
   pub served : HaveServed clock of before scripts pens passes answers
   pub laid : trace.layout ≡ layout
@@ -168,7 +169,8 @@ gone_as state scripts answers shown bytes written order next run of_shown of_wri
     (subst (λ (b : List ℕ). HasGone state scripts shown b order next) (sym of_written)
     (subst (λ (a : List (List CallOutcome)). HasGone state scripts a bytes order next) (sym of_shown) gone))
 
-pub ended_as : (state : RunState) (scripts : List (List Query)) (answers shown : List (List CallOutcome)) (bytes written order : List ℕ) (passes seen : List Known)
+pub ended_as : (state : RunState) (scripts : List (List Query)) (answers shown : List (List CallOutcome)) (bytes written order : List ℕ)
+    (passes seen : List Known)
     → shown ≡ answers → written ≡ bytes → seen ≡ passes → HasEnded state scripts answers bytes order passes
     → HasEnded state scripts shown written order seen
 ended_as state scripts answers shown bytes written order passes seen of_shown of_written of_seen ended =

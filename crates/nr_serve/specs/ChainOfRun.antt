@@ -46,7 +46,8 @@ pub record HasGone (state : RunState) (scripts : List (List Query)) (answers : L
   pub on : GoesOn state (ran_of trace scripts answers bytes order) history next
 
 -- it is right, and the last, since not all that was asked is answered: this is what the passes have seen
-pub record HasEnded (state : RunState) (scripts : List (List Query)) (answers : List (List CallOutcome)) (bytes order : List ℕ) (passes : List Known) : Type 0 where
+pub record HasEnded (state : RunState) (scripts : List (List Query)) (answers : List (List CallOutcome)) (bytes order : List ℕ)
+    (passes : List Known) : Type 0 where
   pub trace : Recording
   pub history : List LogEvent
   pub right : IsRightSegment state (ran_of trace scripts answers bytes order) passes history

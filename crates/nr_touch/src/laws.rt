@@ -22,10 +22,9 @@ pub fn touches_of_tables_that_have_caught_up_are_in_time()
         → IsRightTouch start trace touch ↔ IsAnsweredInTime start trace touch }
 {}
 
-/// A right touch of a page that no update changes while it is open, and none of whose updates is open when it is made, is answered
-/// as an access of the present, unless a moment before an answered update that only gave is still allowed, or it faults by a table that lags
-/// in these updates.
-/// So where flushes are in order and tables have caught up, a TLB can't be distinguished from none.
+/// A right touch is of a page that no update changes while it is open, and none of whose updates is open when it is made. Then it is
+/// answered as an access of the present, unless a moment before an answered update that only gave is still allowed, or it faults by a table
+/// that lags in these updates. So where flushes are in order and tables have caught up, a TLB can't be distinguished from none.
 pub fn touches_of_quiet_pages_are_of_the_present()
     ensures looks { (start : Space) (trace : Recording) (touch : Touch) (m n : ℕ)
         → IsOfQuietPage start trace touch → KeepsNothing start trace touch

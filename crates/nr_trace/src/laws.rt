@@ -59,7 +59,7 @@ pub fn no_fault_of_a_spelling()
         → HasFormatFault bytes fault → ⊥ }
 {}
 
-/// A feed that starts with nothing and is fed some pieces one after another ends as a reading of their bytes joined; and two
+/// A feed that starts with nothing and is fed some pieces one after another ends as a reading of their bytes joined. Two
 /// readings of the same bytes give the same trace or the same fault, but for those that run out of memory.
 pub fn pieces_are_read_as_one()
     ensures joined { (pieces : List (List ℕ)) (fed : Fed) (result : Result Recording (Fail Format))

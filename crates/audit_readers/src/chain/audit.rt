@@ -251,11 +251,11 @@ pub(crate) fn judge_blocks<R: Source, W: Write, P: Progress>(
     Err(ProgFault::CannotRead)
 }
 
-/// Reads a chain in blocks of 4,096 bytes, judges each segment as soon as it is whole, and writes its lines; at the end it writes how
-/// many segments there are, or the first wrong one and its first fault. As JSON it writes an object on a line for each right segment, and
-/// one at the end. If its style is `quiet`, it writes what comes at the end alone. The status is 0 where the chain is right, else 1. Where
-/// fewer of the calls of a right chain overlap another one than `least`, it is 2, and what is written the same. It reads nothing behind the
-/// block in which the first fault shows.
+/// Reads a chain in blocks of 4,096 bytes, judges each segment as soon as it is whole, and writes its lines. At the end it writes how many
+/// segments there are, or the first wrong one and its first fault. As JSON it writes an object on a line for each right segment, and one at
+/// the end. If its style is `quiet`, it writes what comes at the end alone. The status is 0 where the chain is right, else 1. Where fewer
+/// of the calls of a right chain overlap another one than `least`, it is 2, and what is written the same. It reads nothing behind the block
+/// in which the first fault shows.
 ///
 /// The lines of a segment are written before more is read than the block with which it is whole. So wherever it ends, also with a write
 /// that fails, those of all segments that were whole before its last read are written.

@@ -77,9 +77,10 @@ fn explain_blocks<R: Source>(
     Err(ProgFault::CannotRead)
 }
 
-/// Reads a chain in blocks of 4,096 bytes, and writes how many segments there are and how much they have, where all are right; else the
-/// first wrong one, its first fault, a sentence and what shows the fault, facts of this segment. As one JSON object on a line where that
-/// is asked for. The status is 0 where the chain is right, else 1. It reads nothing behind the block in which the first fault shows.
+/// Reads a chain in blocks of 4,096 bytes. It writes how many segments there are and how much they have, where all are right. Else it
+/// writes the first wrong one, its first fault, a sentence and what shows the fault, facts of this segment. As one JSON object on a line
+/// where that is asked for. The status is 0 where the chain is right, else 1. It reads nothing behind the block in which the first fault
+/// shows.
 ///
 /// It allocates what one segment says, the spaces before it and at the beginning of the chain, what its judgement takes, the evidence and
 /// the text.

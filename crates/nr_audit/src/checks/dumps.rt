@@ -101,9 +101,9 @@ fn check_dump(
     }
 }
 
-/// Looks for what is wrong with the dumps, in the order of the replicas: from what each replica needs, what was found in the
-/// dumps that have not applied the whole log, and the space after it, with which the others are compared. Allocates memory for
-/// what the check of a dump takes.
+/// Looks for what is wrong with the dumps, in the order of the replicas. It is given what each replica needs, what was found
+/// in the dumps that have not applied the whole log, and the space after it. The others are compared with that space.
+/// Allocates memory for what the check of a dump takes.
 pub(crate) fn check_dumps(
     alloc: Global,
     trace: &Trace,

@@ -239,9 +239,9 @@ fn number_in(touches: &[Touch], index: Option<usize>) -> Option<u32>
     Some(touch.made)
 }
 
-/// What is found of a segment's touches and releases: the call number of the first touch that is stale, or `None`; that of the first
-/// release that is wrong, or `None`; what is counted of a right segment, if that is asked; what is left for the
-/// touches of later segments; and the space with which the segment begins.
+/// What is found of a segment's touches and releases. These are the call number of the first touch that is stale, or `None`, and
+/// that of the first release that is wrong, or `None`. With them come what is counted of a right segment, if that is asked, what is
+/// left for the touches of later segments, and the space with which the segment begins.
 #[derive(Drop)]
 pub(crate) struct Touched {
     pub(crate) stale: Option<u32>,
@@ -251,11 +251,11 @@ pub(crate) struct Touched {
     pub(crate) start: PlainSpace,
 }
 
-/// The call numbers of the first touch that is stale, and of the first release that is wrong, or `None` each, where the segment begins with
-/// this space, behind segments that left this; what is left then; and the space again. Of a segment whose log isn't clean nothing is said
-/// but that the space comes back. Where no touch or release is made, an empty log isn't replayed; nor is one of answered maps and unmaps
-/// where nothing is left so far. It allocates memory for the touches, and for the replay of the log, which is undone; and with `counts` for
-/// what is counted.
+/// The call numbers of the first touch that is stale, and of the first release that is wrong, or `None` each. The segment begins with this
+/// space, behind segments that left this. What is left then and the space again are given with them. Of a segment whose log isn't clean
+/// nothing is said but that the space comes back. Where no touch or release is made, an empty log isn't replayed; nor is one of answered
+/// maps and unmaps where nothing is left so far. It allocates memory for the touches, and for the replay of the log, which is undone; and
+/// with `counts` for what is counted.
 pub(crate) fn stale_touch(
     alloc: Global,
     segment: &Trace,

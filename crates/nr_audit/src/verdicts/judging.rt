@@ -43,31 +43,30 @@ fn parts_of(alloc: Global, before: Option<Past>) -> (Option<PlainSpace>, Tail)
     }
 }
 
-/// The recorded order of a segment that is right, and what is kept for the next one: the space after its whole log, and how addresses
-/// may still be found to look otherwise; and with `counts` what is counted of it. `before` is what the segment before
-/// left; without one the segment is the first of its chain. A
-/// trace is such a first one, without a start, touches and releases.
+/// The recorded order of a segment that is right, and what is kept for the next one. That is the space after its whole log, and how
+/// addresses may still be found to look otherwise; with `counts` also what is counted of it. `before` is what the segment before
+/// left; without one the segment is the first of its chain. A trace is such a first one, without a start, touches and releases.
 ///
 /// The space that is kept, where there is one, has the depth and the limit of the segment's layout. A segment with a start is then
 /// compared with that space, and goes on from it; the first one begins with the pages of its start, or with none. The recorded order
 /// has the updates by place, and each answered read after the entries that it saw.
 ///
-/// Of a right one the events are a well-formed history; the order has all answered updates and reads and some unanswered updates, each
-/// once, and keeps what came before what; each answer is that of one sequential address space, from the space on with which the
-/// segment begins; each dump that is there translates every canonical address as that space does after so many updates as the
-/// replica had applied; each answered touch was answered as after a prefix of the whole run so far that is allowed for its address, or
-/// faulted by a table that lags; and no release is wrong. An update that its segment doesn't answer is
-/// never over. A refusal does not say that no other order explains it.
+/// Of a right one the events are a well-formed history. The order has all answered updates and reads and some unanswered updates, each
+/// once, and keeps what came before what. Each answer is that of one sequential address space, from the space on with which the
+/// segment begins. Each dump that is there translates every canonical address as that space does after so many updates as the replica
+/// had applied. Each answered touch was answered as after a prefix of the whole run so far that is allowed for its address, or faulted
+/// by a table that lags. No release is wrong. An update that its segment doesn't answer is never over. A refusal does not say that no
+/// other order explains it.
 ///
-/// Allocates memory beside the trace: at most 16 bytes for each event and 4 for each thread, or where there are more threads than
-/// events an entry of a map for each thread that makes a call; where there are touches or releases, or updates of which one is a protect
-/// or has no reply, or updates behind something that was left open or behind a release, 8 bytes more for each event, the touches and
-/// releases, and the changes of the space, which are done and undone; and, when these are freed but for 4 bytes for each call of the
-/// order, for the pages of the space and what the check of a dump takes. It takes time for the segment's own events, log, start and
-/// dumps, and for what was left open, and not for the pages of the space before. A segment without updates, touches and releases takes
-/// none for what was left open. Only the first segment with releases lists all pages, in an index that is kept for the next ones: four
-/// rows of 16 bytes for each page. With `counts` it allocates four bytes more for each event, 48 for each update that changes the space, and
-/// a row of a map for each thread and address of a late fault.
+/// Allocates memory beside the trace: at most 16 bytes for each event and 4 for each thread. Where there are more threads than events, it
+/// is an entry of a map for each thread that makes a call. There are 8 bytes more for each event where there are touches or releases, or
+/// updates of which one is a protect or has no reply, or updates behind something that was left open or behind a release. So there are for
+/// the touches and releases, and for the changes of the space, which are done and undone. These are freed but for 4 bytes for each call of
+/// the order; then come the pages of the space and what the check of a dump takes. It takes time for the segment's own events, log, start
+/// and dumps, and for what was left open, and not for the pages of the space before. A segment without updates, touches and releases takes
+/// none for what was left open. Only the first segment with releases lists all pages, in an index that is kept for the next ones: four rows
+/// of 16 bytes for each page. With `counts` it allocates four bytes more for each event, 48 for each update that changes the space, and a
+/// row of a map for each thread and address of a late fault.
 ///
 /// # Errors
 ///

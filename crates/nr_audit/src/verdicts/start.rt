@@ -1,4 +1,6 @@
-//! The space with which a segment begins.
+//! The space with which a segment begins, where this is the space before it, or it is the first
+//! one. It is the space before it. For the first segment it is that of the pages of its start, or
+//! one with no pages.
 
 ghost use Rattle.std.specs.Prelude.{◌≡◌, IfErr, IfNone, IfOk, IfSome, OnOk};
 ghost use Rattle.vs_types.specs.Refusal.{IfRefused};

@@ -15,8 +15,8 @@ pub enum Act {
     Call,
     /// It puts its update into its slot. In a running thread: the store of the slot's word that says so.
     Post,
-    /// It takes the lock of this replica. In a running thread: the beginning of a hold of the replica's lock in which nothing is read:
-    /// that of a combiner, of a reader that catches up, or of a thread that found the ring full and has each replica catch up in
+    /// It takes the lock of this replica. In a running thread: the beginning of a hold of the replica's lock in which nothing is read.
+    /// It is that of a combiner, of a reader that catches up, or of a thread that found the ring full and has each replica catch up in
     /// turn. The hold under which an update is confirmed is no step.
     Take(u8),
     /// It takes the update from the slot of this thread into the batch of the replica whose lock it holds. In a running thread: the

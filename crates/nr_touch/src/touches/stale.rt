@@ -213,11 +213,11 @@ pub struct Followed {
 /// Judges the touches and the releases of a segment behind others, and gives the start back.
 ///
 /// `stale`: the index of the first touch that isn't right. A right one is answered as its address was at a moment that is still allowed:
-/// after the first entries of the run so far and the segment. These have no update that changes how the address looks and was made after the
-/// touch was answered. If a page covers the address after them, they have each update that takes away from the address and was answered
-/// before the touch was made; if none does, each that changes how it looks and was answered by then. Or the touch faults since no page has its
-/// address, and its replica's table may lag. An update that its segment doesn't answer is never over, also behind later segments: how
-/// addresses may still be found to look for this is what the tail has, of the segments so far and then with this one.
+/// after the first entries of the run so far and the segment. These have no update that changes how the address looks and was made after
+/// the touch was answered. If a page covers the address after them, they have each update that takes away from the address and was answered
+/// before the touch was made. If none does, they have each that changes how it looks and was answered by then. Or the touch faults since no
+/// page has its address, and its replica's table may lag. An update that its segment doesn't answer is never over, also behind later
+/// segments. How addresses may still be found to look for this is what the tail has, of the segments so far and then with this one.
 ///
 /// `reachable`: the index of the first release that is wrong: a touch that is made and answered at its event could find its memory, or it
 /// is answered otherwise than by `Done`.
@@ -228,12 +228,13 @@ pub struct Followed {
 ///
 /// The touches and the releases lie in the segment, whose space begins with this start. Of a segment whose log isn't clean nothing is said
 /// but that the start comes back. It takes time for the events, the log, the touches, the releases and what of the tail is merged with the
-/// changes; and not for the pages of the start: the updates of the log are done on it, and then undone. Only the first segment with
+/// changes. It takes none for the pages of the start: the updates of the log are done on it, and then undone. Only the first segment with
 /// releases lists all pages, and those that the tail leaves to be found, in indexes that the tail keeps from then on. These have four rows
-/// of 16 bytes for each page, and 24 bytes more for one that the tail leaves. Allocates a table of four bytes for each event, 160 bytes for each update
-/// that changes the space, 216 bytes for each change of the tail that is merged, and a byte for each touch; with `counts` 48 bytes more for
-/// each update that changes the space; where there are releases at most 344 bytes more for each change of the segment, and for each page
-/// that it changed, and eight rows of 48 bytes for each release, of which the tail keeps half until it lists its pages again.
+/// of 16 bytes for each page, and 24 bytes more for one that the tail leaves. Allocates a table of four bytes for each event, 160 bytes for
+/// each update that changes the space, 216 bytes for each change of the tail that is merged, and a byte for each touch. With `counts` there
+/// are 48 bytes more for each update that changes the space. Where there are releases there are at most 344 bytes more for each change of
+/// the segment, and for each page that it changed. Each release has eight rows of 48 bytes, of which the tail keeps half until it lists its
+/// pages again.
 ///
 /// # Errors
 ///

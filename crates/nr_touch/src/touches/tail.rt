@@ -27,9 +27,9 @@ pub(crate) struct Left {
     pub(crate) over: bool,
 }
 
-/// Behind some segments, how addresses may still be found to look: the changes, in the order of the log, before which their addresses may
-/// still be found to look as they did, and those behind them that end this. Once a segment has had releases, it also has indexes of the
-/// pages of the space, and of those that addresses may still be found to look as, by the memory that they lead into.
+/// Behind some segments, how addresses may still be found to look. It has the changes, in the order of the log, before which their
+/// addresses may still be found to look as they did, and those behind them that end this. Once a segment has had releases, it also has
+/// indexes of the pages of the space, and of those that addresses may still be found to look as, by the memory that they lead into.
 #[derive(Debug, Drop)]
 pub struct Tail {
     pub(crate) changes: Vec<Left>,

@@ -11,8 +11,9 @@ use std::marker::Model;
 use vs_types::{CALLS, Config, LOG_PLACES};
 use vs_walk::Dump;
 
-/// A recorded run, within the ranges of its version of the format: its layout, the page table with which it begins where that is
-/// answered, the call at each place of the log, the events in order, and a dump of each replica. Contracts see its recording.
+/// A recorded run, within the ranges of its version of the format. It has its layout, the page table with which it begins where
+/// that is answered, the call at each place of the log, the events in order, and a dump of each replica. Contracts see its
+/// recording.
 #[derive(Debug, Drop)]
 pub struct Trace {
     version: Version,

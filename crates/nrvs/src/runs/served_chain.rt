@@ -294,10 +294,10 @@ fn chain_named<J: LogName + Send + Sync, W: Write, R: Source, T: Threads + Wait 
     Err(ProgFault::CannotRead)
 }
 
-/// Reads a script of any length that lists no steps, runs it with 64 threads in segments of so many requests, and writes what came of each
-/// call of a segment, by thread and then by call, as soon as the segment is judged; and that the run is verified, or that a segment is
-/// refused, and why. With `as_trace` it writes the bytes of its segments alone, which are one chain. The status is 0 where all segments are
-/// right, else 1. A segment in which a thread was stopped is the last, and nothing is asked of the lines behind it.
+/// Reads a script of any length that lists no steps, and runs it with 64 threads in segments of so many requests. It writes what came of
+/// each call of a segment, by thread and then by call, as soon as the segment is judged. At the end it writes that the run is verified, or
+/// that a segment is refused, and why. With `as_trace` it writes the bytes of its segments alone, which are one chain. The status is 0
+/// where all segments are right, else 1. A segment in which a thread was stopped is the last, and nothing is asked of the lines behind it.
 ///
 /// It reads in blocks of 4,096 bytes, and no more than fills a segment before that is run. So it allocates the replicas, a segment, what its
 /// judgement takes and the space before it, its text, and a line that goes over the end of a block. Waits for the threads.

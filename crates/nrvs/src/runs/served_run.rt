@@ -111,10 +111,10 @@ fn run_named<J: LogName + Send + Sync, W: Write, T: Threads + Wait + Sync>(
     }
 }
 
-/// Reads a script that lists no steps, runs it, a thread for each of its threads and each call up to so many turns, and writes what
-/// came of each call, by thread and then by call, and that the run is verified; or that it is refused, and why. With `as_trace` it
-/// writes the bytes of the run's trace alone. The status is 0 where the run is verified, else 1. It reads at most 16,777,217 bytes.
-/// If it gives no answer, nothing was written but where that failed.
+/// Reads a script that lists no steps, and runs it, a thread for each of its threads and each call up to so many turns. It writes
+/// what came of each call, by thread and then by call, and that the run is verified; or that it is refused, and why. With
+/// `as_trace` it writes the bytes of the run's trace alone. The status is 0 where the run is verified, else 1. It reads at most
+/// 16,777,217 bytes. If it gives no answer, nothing was written but where that failed.
 ///
 /// Waits for the threads. It takes what `input_script` and `run` of nr_serve take, and memory for the text.
 ///
