@@ -181,8 +181,8 @@ AsksAudit rows (One (AuditChain style watched least) input) = IsFlag (one_of (co
 AsksAudit rows inspection = IsFlag (one_of (codes "chain") rows) false × IsFlag (one_of (codes "quiet") rows) false
     × IsFlag (one_of (codes "progress") rows) false × AsksTraces rows inspection
 
--- it is misused, though clap has nothing against it: more than one chain is named, or more than one trace of which calls are to overlap; or it
--- is to be quiet of no chain, or to show how far it has come with none
+-- it is misused, though clap has nothing against it. More than one chain is named, or more than one trace of which calls are to overlap. Or
+-- it is to be quiet of no chain, or to show how far it has come with none
 abbrev pub IsMisuse : List Row → ErrorKind → Type 0
 IsMisuse rows kind.TooManyValues = (IsFlag (one_of (codes "chain") rows) true ⊎ AsksOverlap rows) × HasSeveralFiles rows
 IsMisuse rows kind.MissingRequiredArgument = IsFlag (one_of (codes "chain") rows) false

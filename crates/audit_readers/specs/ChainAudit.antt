@@ -30,8 +30,8 @@ CountsTo run bytes (order ∷ more) old new =
 abbrev pub IsCounted : Style → ℕ → Type 0
 IsCounted style least = (style.as_json ≡ true) ⊎ (0 < least)
 
--- the text and the status are those of what is found of these bytes, where so many calls are to overlap; where no fault is, they are right with these
--- orders, and these are their totals, if they are counted
+-- the text and the status are those of what is found of these bytes, where so many calls are to overlap. Where no fault is, they are right
+-- with these orders, and these are their totals, if they are counted
 pub record IsChainAudit (style : Style) (least : ℕ) (bytes text : List ℕ) (status : ℕ) : Type 0 where
   pub orders : List (List ℕ)
   pub found : Option Fault

@@ -73,8 +73,8 @@ pub record IsMostLate (segment : Recording) (touches : List Touch) (list : List 
   pub all : (thread address : ℕ) → late_by segment touches list thread address end ≤ most
   pub some : (most ≡ 0) ⊎ ((thread : ℕ) × (address : ℕ) × (late_by segment touches list thread address end ≡ most))
 
--- so much is counted of a segment behind a run, where it begins with this space: the calls that overlap another one, the touches beside updates,
--- how many touches each excuse has, and the most of those that fault late by one thread at one address
+-- so much is counted of a segment behind a run, where it begins with this space. These are the calls that overlap another one, the touches
+-- beside updates, how many touches each excuse has, and the most of those that fault late by one thread at one address
 pub record HasMet (before : Option Run) (start : Space) (segment : Recording) (met : Met) : Type 0 where
   pub meetings : met.overlapping ≡ overlapping segment
   pub near : met.beside ≡ beside start segment

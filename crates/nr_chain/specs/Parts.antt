@@ -28,8 +28,8 @@ abbrev pub HaveReleases : List Recording → Type 0
 HaveReleases [] = ⊥
 HaveReleases (segment ∷ more) = ((release : Release) × HasRelease segment release) ⊎ HaveReleases more
 
--- a chain that is spelled by itself may come behind one that has come to this: its first segment is laid out so, and the pages of its start,
--- or none where it has no start, are those of the space after it; and where it gives memory away, the one before is settled
+-- a chain that is spelled by itself may come behind one that has come to this. Its first segment is laid out so, and the pages of its
+-- start, or none where it has no start, are those of the space after it. Where it gives memory away, the one before is settled
 pub record MayFollow (end : Run) (bytes : List ℕ) : Type 0 where
   pub first : Recording
   pub rest : List ℕ

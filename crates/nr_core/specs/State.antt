@@ -16,8 +16,8 @@ pub record Thread : Type 0 where
   pub stage : Stage
   pub holds : Option ℕ
 
--- a replica: the thread that holds its lock; its batch, and whether that is in the log; how many entries of the log it has
--- fetched, which is its local tail, and how many of these it has applied; and its space after them
+-- a replica: the thread that holds its lock, its batch, and whether that is in the log. It has the number of entries that
+-- it has fetched, which is its local tail, and of those that it has applied, and its space after them
 pub record Replica : Type 0 where
   pub holder : Option ℕ
   pub batch : List Collected

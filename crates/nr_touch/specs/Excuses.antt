@@ -20,8 +20,8 @@ pub record IsNewestPrefix (start : Space) (trace : Recording) (touch : Touch) (n
 abbrev pub IsAnsweredAsNow : Space → Recording → Touch → Type 0
 IsAnsweredAsNow start trace touch = (n : ℕ) × IsNewestPrefix start trace touch n × IsAllowedPrefix start trace touch n × IsAnsweredAt start trace touch n
 
--- entries that have all of the segments before, which are so many; each update that changes how the address looks and was answered before the touch was
--- made; and none that changes it and was made after the touch was answered
+-- entries that have all of the segments before, which are so many, and each update that changes how the address looks and was answered
+-- before the touch was made. They have none that changes it and was made after the touch was answered
 pub record IsUpToDate (before : ℕ) (start : Space) (trace : Recording) (touch : Touch) (n : ℕ) : Type 0 where
   pub within : n ≤ length trace.log
   pub has_earlier : before ≤ n

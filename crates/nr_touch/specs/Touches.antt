@@ -82,8 +82,8 @@ IsAnsweredInTime start trace touch = (n : ℕ) × IsAllowedPrefix start trace to
 abbrev pub IsFaultOfNone : Touch → Type 0
 IsFaultOfNone touch = touch.answer ≡ Fault (fault_code false touch.mode touch.access)
 
--- the table of the touch's replica may lag at so many entries. They have all that it was known to have applied when the touch was made, and none
--- that changes how the address looks and was made after the touch was answered; and no page has the address after them
+-- the table of the touch's replica may lag at so many entries. They have all that it was known to have applied when the touch was made.
+-- They have none that changes how the address looks and was made after the touch was answered, and no page has the address after them
 pub record IsLagging (start : Space) (trace : Recording) (touch : Touch) (m : ℕ) : Type 0 where
   pub within : m ≤ length trace.log
   pub known : touch.known ≤ m

@@ -21,8 +21,8 @@ use Rattle.nr_trace.specs.declared.recordings.event.Event.TheVariants.{Call, Rep
 use Rattle.nr_trace.specs.declared.recordings.event.Asked.{Asked}
 use Rattle.nr_trace.specs.declared.recordings.event.Asked.TheVariants.{Request, Touch, Release}
 
--- the version of the format, the layout of the service, and the page table with which the run begins if that is given; the call number at
--- each place of the log, the events in order, and a dump of each replica
+-- the version of the format, the layout of the service, and the page table with which the run begins if that is given. Then the call
+-- number at each place of the log, the events in order, and a dump of each replica
 pub record Recording : Type 0 where
   pub version : Version
   pub layout : Layout

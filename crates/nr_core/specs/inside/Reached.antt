@@ -77,8 +77,8 @@ pub record Shared : Type 0 where
 abbrev pub shared_in : State → Shared
 shared_in state = record { events = state.events; log = state.log; completed = state.completed; replicas = state.replicas }
 
--- an answer of a call: an update's place has the call; all entries that are known by it are completed, and applied at the
--- call's replica; it is what the space gives before its place; and no more were known when the call was made
+-- an answer of a call: an update's place has the call, and all entries that are known by it are completed, and applied at
+-- the call's replica. It is what the space gives before its place, and no more were known when the call was made
 pub record IsRight (layout : Layout) (shared : Shared) (made : Invocation) (call at : ℕ) (answer : Answer) : Type 0 where
   pub placed : (action : Action) → operation_in (request_made made) ≡ Some action → (entry : LogEntry) × At shared.log at entry × (entry.call ≡ call)
   pub known : reach (request_made made) at ≤ shared.completed
