@@ -3,8 +3,8 @@
 use nr_dump::DumpFault;
 use vs_types::{Depth, Size};
 
-/// 512 words, 0 but for runs of them: the index of the first, how many there are, the first, and then each 4,096 more than the one
-/// before, so that tables or pages of 4 KiB come one after another.
+/// 512 words, 0 but for runs of them. Of a run this has the index of the first, how many there are, and the first. Each other has
+/// 4,096 more than the one before, so that tables or pages of 4 KiB come one after another.
 pub type Frame = &'static [(usize, usize, u64)];
 
 /// A dump of frames 1, 2, 3 and so on, pages of a space, each with all rights, and what a check of the two answers.

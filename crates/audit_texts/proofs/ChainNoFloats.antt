@@ -58,8 +58,8 @@ called : (update : Option PlacedUpdate) → has_float (changed_data update) ≡ 
 called None = refl
 called (Some update) = refl
 
--- what shows a stale touch has what was called later, looks, the update that it should have seen, what was open then, and where it would be right; and
--- perhaps a reply that shows what was known, and earlier looks
+-- what shows a stale touch has what was called later, looks, the update that it should have seen, what was open then, and where it would be
+-- right. It may also have a reply that shows what was known, and earlier looks
 abbrev five : Bool → Bool → Bool → Bool → Bool → Bool
 five a b c d rest = a || (b || (c || (d || rest)))
 

@@ -22,8 +22,8 @@ abbrev pub HasFittingDumpsFrom : Space → Segment → Type 0
 HasFittingDumpsFrom start segment = (replica : ℕ) (dump : Image) → slice_get segment.trace.dumps replica ≡ Some dump
     → IsThere dump → FitsFrom start segment.trace segment.order replica dump
 
--- a segment is right from the space with which it begins, in the words of a trace's headline, but that its events are such a history,
--- which need not be a well-formed one; and the updates of its order are its log
+-- a segment is right from the space with which it begins, in the words of a trace's headline. But its events are such a history,
+-- which need not be a well-formed one, and the updates of its order are its log
 pub record IsRightFrom (start : Space) (segment : Segment) : Type 0 where
   pub events : IsHistory segment.trace
   pub members : HasItsCalls segment.trace segment.order

@@ -33,8 +33,8 @@ IfYes P (No orders fault) = ⊤
 abbrev pub LastsNext : Option Run → List ℕ → Fault → Type 0
 LastsNext before bytes fault = (rest : List ℕ) → IsFirstNext before (bytes ++ rest) fault
 
--- the piece is taken, and there are too few bytes; or so many bytes at its front end a segment that is right with its order, of
--- which so much is counted, if it is; or the bytes with it have a fault
+-- the piece is taken, and there are too few bytes. Or so many bytes at its front end a segment that is right with its order, of
+-- which so much is counted, if it is. Or the bytes with it have a fault
 abbrev pub FeedsChain : Option Run → ChainFed → List ℕ → Step → Type 0
 FeedsChain before old piece (More new) =
     (new ≡ record old { bytes = old.bytes ++ piece }) × HasSegmentFault (layout_before before) new.bytes Truncated

@@ -128,9 +128,9 @@ IsLater start segment address answered last behind (Some update) =
     IsSome behind × (update.place ≡ last) × (slice_get segment.log last ≡ Some update.call.event) × IsCallOf segment update.call
     × (answered < update.call.event) × ChangesLook start segment address last
 
--- the touch is answered so, and may be answered from just these moments of its segment, of those in which its address has a page or none, as the touch
--- found it; where it found none, by a table that lags too. Which update it should have seen, which was open then, which was made later, and after which
--- numbers of entries it would be right
+-- the touch is answered so, and may be answered from just these moments of its segment. These are of those in which its address has a page
+-- or none, as the touch found it; where it found none, by a table that lags too. Which update it should have seen, which was open then,
+-- which was made later, and after which numbers of entries it would be right
 pub record IsStaleTouch (start : Space) (segment : Recording) (stale : StaleTouch) : Type 0 where
   pub call : IsCallOf segment stale.call
   pub address : ℕ
@@ -155,8 +155,8 @@ abbrev pub LingersBehind : Option Run → ℕ → Answer → Type 0
 LingersBehind None address seen = ⊥
 LingersBehind (Some run) address seen = (page : Option Page) × Lingers run.start run.trace address page × (seen ≡ look_in_page address page)
 
--- a touch that found a page, or none, and may be answered from no entry of its segment may be answered too as its address lingers to look behind the
--- segments before: in just these looks, in which it has a page, or none; and else in no earlier one
+-- a touch that found a page, or none, and may be answered from no entry of its segment may be answered too as its address lingers to look
+-- behind the segments before. These are just the looks in which it has a page, or none, and else it may be answered in no earlier one
 abbrev pub AreEarlier : Option Run → ℕ → ℕ → Bool → List Answer → Type 0
 AreEarlier before address first with_page looks =
     (seen : Answer) → Contains looks seen ↔ ((first ≡ 0) × (is_mapped seen ≡ with_page) × LingersBehind before address seen)
@@ -173,8 +173,8 @@ IsLeading start segment given reach (Within entries taken) =
 IsLeading start segment given reach Earlier =
     (reach.first ≡ 0) × ((n : ℕ) → n ≤ reach.last → LeadsInto given (looks_from start segment reach.address n) → ⊥)
 
--- an access of the address that is made and answered at the event may be answered from just these moments, of those in which the address has a page, and
--- so it looks at one of them: it leads into the memory
+-- an access of the address that is made and answered at the event may be answered from just these moments, of those in which the address
+-- has a page. So it looks at one of them: it leads into the memory
 pub record IsReach (start : Space) (segment : Recording) (event : ℕ) (given : Given) (reach : Reach) : Type 0 where
   pub window : (touch : Touch) → touch.address ≡ reach.address → touch.made ≡ event → touch.answered ≡ event → (n : ℕ)
       → IsSome (page_after start segment touch.address n)

@@ -70,8 +70,8 @@ Explains came seen rest explanation = IsExplanationFrom came (seen.bytes ++ rest
 abbrev pub IsExplanationOfChain : List ℕ → ChainExplanation → Type 0
 IsExplanationOfChain bytes explanation = IsExplanationFrom None bytes explanation
 
--- the piece is taken: with it the bytes are those of right segments, which come to what is kept, and then too few for one more, where there is
--- a piece; or this explains the chain, whatever comes behind the piece
+-- the piece is taken: with it the bytes are those of right segments, which come to what is kept, and then too few for one more, where there
+-- is a piece. Or this explains the chain, whatever comes behind the piece
 abbrev pub FeedsReader : Option ChainState → ReaderState → List ℕ → ReaderStep → Type 0
 FeedsReader came old piece (More new) =
     (segments : List Recording) × (last : Option ChainState) × GoesOnTo came (old.bytes ++ piece) segments last new.bytes × IsSeenOf last new.state

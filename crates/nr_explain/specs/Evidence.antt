@@ -117,8 +117,8 @@ pub record IsEarly (trace : Recording) (early : EarlyCall) : Type 0 where
   pub names : early.reply.call ≡ early.answered.event
   pub own : IsFirstReplyTo trace early.call.event early.own
 
--- the call is answered otherwise than the space answers it after the updates that come before it, from this space on; after which numbers of
--- entries it would be right, and where the space before it has the memory that the answer names
+-- the call is answered otherwise than the space answers it after the updates that come before it, from this space on. With it come after
+-- which numbers of entries it would be right, and where the space before it has the memory that the answer names
 pub record IsOtherAnswerFrom (start : Space) (trace : Recording) (wrong : OtherAnswer) : Type 0 where
   pub call : IsCallOf trace wrong.call
   pub request : Query

@@ -40,8 +40,8 @@ space_in came = space_before (run_in came)
 
 -- ---- what a reader keeps of that
 
--- what is kept of the segments so far: how they are laid out; the space after the last one; what they leave for the touches of later ones; the
--- space with which the chain begins; and how much they have
+-- what is kept of the segments so far: how they are laid out, the space after the last one, and what they leave for the touches of later
+-- ones. It also has the space with which the chain begins, and how much they have
 pub record Seen : Type 0 where
   pub layout : Layout
   pub space : Space

@@ -19,9 +19,9 @@ use std::alloc::Global;
 use vs_plain::PlainSpace;
 use vs_types::Memory;
 
-/// The call that is answered otherwise than the space answers it, where the segment begins with this one; that answer, the last update of
-/// the segment that made it so, and what is near: where the answer would have been right, and where its memory is. Allocates memory for a
-/// copy of the space, and for others when that one is freed.
+/// The call that is answered otherwise than the space answers it, where the segment begins with this one. With it come that answer, the
+/// last update of the segment that made it so, and what is near: where the answer would have been right, and where its memory is.
+/// Allocates memory for a copy of the space, and for others when that one is freed.
 pub(crate) fn other_answer(
     alloc: Global,
     segment: &Trace,

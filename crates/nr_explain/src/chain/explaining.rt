@@ -161,9 +161,9 @@ fn explain_release(
     Ok(SegmentEvidence::Reachable(wrong_release(alloc, last, segment, &first, call)?))
 }
 
-/// What shows the first fault of a segment that comes behind what the segments so far have come to: each fact of it is one of the segment,
-/// of the space before it, of what lingers behind the segments before, or of the space with which the chain begins. Allocates memory for
-/// a space or two, and for what is shown; for a release what a judgement of it takes.
+/// What shows the first fault of a segment that comes behind what the segments so far have come to. Each fact of it is one of the segment,
+/// of the space before it, of what lingers behind the segments before, or of the space with which the chain begins. Allocates memory for a
+/// space or two, and for what is shown; for a release what a judgement of it takes.
 pub(crate) fn explain_segment(
     alloc: Global,
     last: &Option<Progress>,

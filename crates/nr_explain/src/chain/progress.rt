@@ -199,8 +199,9 @@ fn begin_behind(alloc: Global, last: Option<Progress>, segment: &Trace) -> Resul
 }
 
 /// What is come to with a segment more, of which this is the order and so much is counted, which leaves this, and which so many bytes
-/// spell, by a copy of what it leaves; and what it leaves. It allocates two spaces where the segment is the first, and memory for the pages
-/// that its log maps, the changes that its updates make, and what the copy doesn't have of the segments before.
+/// spell. It is made by a copy of what the segment leaves, and that is given with it. It allocates two spaces where the segment is the
+/// first, and memory for the pages that its log maps, the changes that its updates make, and what the copy doesn't have of the segments
+/// before.
 pub(crate) fn go_on(
     alloc: Global,
     last: Option<Progress>,

@@ -241,9 +241,10 @@ fn nearest_to(
     nearest(segment, begun, request, told, window.first, window.last)
 }
 
-/// A stale touch, where the segment begins with this space: from which moments it may be answered, how its address looked at these, which
-/// update it should have seen, which was open then, which was made later, and after which entries its answer would be right. Allocates a
-/// table of four bytes for each event, memory for a copy of the space, and for others when that one is freed.
+/// A stale touch, where the segment begins with this space. It has the moments from which it may be answered, and how its address looked
+/// at these. It has the updates that it should have seen, that were open then, and that were made later, and after which entries its
+/// answer would be right. Allocates a table of four bytes for each event, memory for a copy of the space, and for others when that one is
+/// freed.
 pub(crate) fn stale_touch(
     alloc: Global,
     last: &Option<Progress>,

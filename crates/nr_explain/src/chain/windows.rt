@@ -1,4 +1,6 @@
-//! From how many entries of the log to how many a touch may be answered.
+//! From how many entries of the log to how many a touch may be answered that finds a page, or that
+//! finds none. With it comes the first place whose update ends that it finds that, and isn't
+//! answered when it is made; it is the number of places where there is no such update.
 
 ghost use Rattle.std.specs.Prelude.{◌≡◌, ◌+◌, ◌<◌, ◌^◌, ◌↔◌, ◌&&◌, if◌then◌else◌, IfOk, IsTrue, length, min, not};
 ghost use Rattle.vs_types.specs.Space.{IsSpace};
@@ -157,8 +159,8 @@ fn narrow(window: Window, place: u32, ends: bool, is_over: bool, is_later: bool)
     }
 }
 
-/// From how many entries to how many a touch of an address may be answered that is made and answered at these events, where the segment
-/// begins with this space and these are its first replies: a touch that finds a page, or one that finds none.
+/// From how many entries to how many a touch of an address may be answered that is made and answered at these events. The segment
+/// begins with this space and these are its first replies. The touch is one that finds a page, or one that finds none.
 fn window_of(
     segment: &Trace,
     replies: &[u32],

@@ -202,8 +202,8 @@ pub fn entry_at(dump: &Dump, level: u8, frame: u64, index: u16) -> TableEntry
     }
 }
 
-/// The first way from the root of a dump to a table that has at an index a word with a reserved bit set, where some way leads there; that
-/// word, as an entry of the table's level; and the lowest such bit. Allocates memory for the way.
+/// The first way from the root of a dump to a table that has at an index a word with a reserved bit set, where some way leads there. With
+/// it come that word, as an entry of the table's level, and the lowest such bit. Allocates memory for the way.
 ///
 /// # Errors
 ///
