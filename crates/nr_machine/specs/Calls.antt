@@ -13,8 +13,8 @@ use Rattle.nr_machine.specs.Words.{told_by, with_at}
 use Rattle.nr_machine.specs.World.{Act, World, opening, played}
 use Rattle.nr_machine.specs.World.Act.{Begins, Does, Applies, Ends, ReadBegins, ReadEnds}
 
--- what a call gives a machine: updates to append; how many entries its node is to have; what the word was before the operation that it
--- asked for, or any value where a node lags; the reply to an entry
+-- what a call gives a machine: updates to append, how many entries its node is to have, or the reply to an entry. Or it is what the
+-- word was before the operation that it asked for, or any value where a node lags
 pub data Given : Type 0 where
   Updates : (updates : List Update) → Given
   Wanted : (at_least : ℕ) → Given

@@ -25,8 +25,8 @@ pub fn nodes_share_one_log()
         → AreWritten nodes (played (opening nodes) acts) }
 {}
 
-/// Whatever the entries do to a state, each node keeps the state after its beginning of the one log; each update that ended was given the
-/// answers at its places, to its own updates and in their order; and each read saw the state after as many entries as it reports.
+/// Whatever the entries do to a state, each node keeps the state after its beginning of the one log. Each update that ended was given the
+/// answers at its places, to its own updates and in their order. Each read saw the state after as many entries as it reports.
 pub fn states_follow_the_log<State, Answer>()
     ensures world { (kind : Kind State Answer) (w : Nodes State Answer) (acts : List Act)
         → (run kind w acts).world ≡ played w.world acts }
@@ -110,8 +110,8 @@ pub fn everywhere_stays()
         → AllApplied nodes (played (opening nodes) acts) place }
 {}
 
-/// What is asked of a schedule can be met, by each kind of step: here a call of two updates is appended at one node while the exchange of
-/// another fails; that one looks how many entries each node has taken, and appends its own; a read sees all three, and then both have
+/// What is asked of a schedule can be met, by each kind of step. Here a call of two updates is appended at one node while the exchange of
+/// another fails. That one looks how many entries each node has taken, and appends its own. A read sees all three, and then both have
 /// flushed them.
 pub fn calls_can_end()
     ensures plays { Plays 2 (opening 2) example }

@@ -34,8 +34,8 @@ pub record Tables : Type 0 where
   pub memory : ℕ → Memory
   pub moments : ℕ → List Moment
 
--- a step of the schedule by which no entry is applied; or the next entry is applied at a node: by this plan, and the node's processors
--- flush, after which its memory is this, and one of them has lived through this before the flush; or a processor sets flags in a node's
+-- a step of the schedule by which no entry is applied. Or the next entry is applied at a node: by this plan, and the node's processors
+-- flush, after which its memory is this, and one of them has lived through this before the flush. Or a processor sets flags in a node's
 -- memory, which is this then
 pub data Work : Type 0 where
   Takes : (act : Act) → Work

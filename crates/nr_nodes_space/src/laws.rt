@@ -43,8 +43,8 @@ pub fn plans_answer_as_the_log()
         (w.nodes.world.log.entry (w.nodes.world.actor n).applied)) }
 {}
 
-/// What a processor finds, in the memory as it is, is what the space after some entries has there: after as many as its node has applied;
-/// and while the stores of the next entry's plan are made, whatever flags are set meanwhile, after as many, or one more.
+/// What a processor finds, in the memory as it is, is what the space after some entries has there: after as many as its node has applied.
+/// While the stores of the next entry's plan are made, whatever flags are set meanwhile, it is after as many, or one more.
 pub fn processors_find_the_log()
     ensures between { (nodes : ℕ) (target : ℕ → Target) (kind : Kind Space Answer)
         (w : Tables) (n address : ℕ) (end : Walk) → AreReached nodes target kind w

@@ -36,8 +36,8 @@ pub record HasAppendedAndTaken (depth : Depth) (replicas : ℕ) (before : View) 
   pub appended : HasAppended depth replicas before batch place between
   pub taken : HasTakenAll depth replicas between (entries ++ batch) after
 
--- why a batch of so many entries was not appended to the log of so many places that the pass has then seen: it would go past its end; it
--- is full; or it is neither, but another pass's event came. The tails in the answer are the log's
+-- why a batch of so many entries was not appended to the log of so many places that the pass has then seen. It would go past its end, or
+-- it is full, or it is neither, but another pass's event came. The tails in the answer are the log's
 abbrev pub IsReason : ℕ → Log → ℕ → View → View → AppendFault → Type 0
 IsReason places log n before after LogEnded = IsEnded places log n
 IsReason places log n before after (Full tails) = (tails ≡ tails_of log) × HasRoom places log n × IsFull log n

@@ -10,10 +10,10 @@ use Rattle.nr_ring.specs.declared.cells.stored.Stored.{Stored}
 use Rattle.nr_ring.specs.declared.ring.view.View.{View}
 
 -- The value is one history, with the ring of each entry, of which there are no more than the log has places. What each pass knows is true
--- of it. Each event has one maker, which is one of the passes; and each replica has one owner at most.
--- There are so many rights to make events, and a pass that made one has a right still. So where each of so many passes has one right,
--- they have all, and no other pass has made an event. A new log hands out its passes so, and each call leaves its pass one right:
--- no call makes an event by a pass that its caller does not know, and one that leaves `mine` as it was has made none
+-- of it. Each event has one maker, which is one of the passes; and each replica has one owner at most. There are so many rights to make
+-- events, and a pass that made one has a right still. So where each of so many passes has one right, they have all, and no other pass has
+-- made an event. A new log hands out its passes so, and each call leaves its pass one right. No call makes an event by a pass that its
+-- caller does not know, and one that leaves `mine` as it was has made none
 pub record IsKept (depth : Depth) (replicas passes places : ℕ) (stored : Stored) (views : List View) : Type 0 where
   pub makers : List ℕ
   pub is_history : IsLogHistory depth replicas stored.history

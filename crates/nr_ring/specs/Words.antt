@@ -15,8 +15,8 @@ use Rattle.nr_ring.specs.declared.cells.words.TheConstants.{CELL_WORDS, TAIL_WOR
 abbrev pub word_of : ℕ → ℕ
 word_of place = ENTRY_WORDS + 2 * (place % RING)
 
--- the tail, the completed tail, four local tails (of which those of absent replicas are 0), the number of replicas, and each of
--- the last 16 entries in the two words of its place; words that no entry has had are 0
+-- the tail, the completed tail, four local tails (of which those of absent replicas are 0), and the number of replicas. Then
+-- each of the last 16 entries in the two words of its place; words that no entry has had are 0
 pub record IsWordsOf (log : Log) (words : List ℕ) : Type 0 where
   pub long : length words ≡ CELL_WORDS
   pub tail_is : slice_index words TAIL_WORD ≡ tail log

@@ -3,8 +3,8 @@ use Rattle.std.specs.Prelude.{ℕ, ◌-◌, Bool, List}
 pub use Rattle.atomic_table.specs.Seated.{TableId}
 use Rattle.version_cell.specs.declared.layout.TheConstants.{WORDS}
 
--- which cell it is of, its number among the passes of the cell, what it knows, and the value that it saw last; whether it saw that itself
--- and not by meeting another; and its own words: where they begin among those beside the cell, and what lies in them
+-- which cell it is of, its number among the passes of the cell, what it knows, and the value that it saw last. Then whether it saw that
+-- itself and not by meeting another, and its own words: where they begin among those beside the cell, and what lies in them
 pub record CellPass (V X : Type 0) : Type 0 where
   pub cell : TableId
   pub number : ℕ

@@ -5,8 +5,8 @@ use Rattle.vs_plan.specs.declared.plans.plan.Flush.{Flush}
 use Rattle.vs_plan.specs.declared.plans.plan.Flush.TheVariants.{Nothing, Page, PageAndTables, Range}
 use Rattle.vs_plan.specs.Processor.{Kept, Translation, PagingEntry, IsDropped, region_number}
 
--- translations as ever, but of the entries that lead to tables only those on the walks of the addresses that are flushed: so does an INVPCID
--- of one address (type 0), for pages that aren't global, and an INVLPG where EFER.TCE is 1
+-- translations as ever, but of the entries that lead to tables only those on the walks of the addresses that are flushed. So does an
+-- INVPCID of one address (type 0), for pages that aren't global, and an INVLPG where EFER.TCE is 1
 abbrev pub IsDroppedOnWalk : Flush → Kept → Type 0
 IsDroppedOnWalk Nothing kept = ⊥
 IsDroppedOnWalk (Page base size) kept = IsDropped (Page base size) kept

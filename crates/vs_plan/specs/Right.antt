@@ -272,8 +272,8 @@ pub record IsCut (target : Target) (memory : Memory) (address : ℕ) (unlinked :
   pub leads : meaning (suc level) store.old ≡ entry.Table number allowed
   pub unlinked_is : unlinked ≡ number ∷ []
 
--- which table is filled: by a split and an unmap of parts alone; what the first store is of, and what is written by one store, which unlinks
--- a table by a join, a collapse or a prune alone
+-- which table is filled: by a split and an unmap of parts alone. Then what the first store is of, and what is written by one store, which
+-- unlinks a table by a join, a collapse or a prune alone
 abbrev pub IsPut : Target → Request → Memory → List (Option ℕ) → Option Fill → List Store → List ℕ → Type 0
 IsPut target request memory offered fill [] unlinked = fill ≡ None
 IsPut target (Map page bits) memory offered fill (store ∷ stores) unlinked = fill ≡ None

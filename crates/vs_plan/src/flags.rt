@@ -81,9 +81,9 @@ pub fn flags_keep_processors_up_to_date()
         → IsPremise depth new root address space }
 {}
 
-/// A right plan is right for each memory in which its stores find their words, and that differs from the one that was shown in flags alone,
-/// if the bits that it answers are those of the page's entry still. And so is the plan with the word that one of its stores found, whose
-/// bits are those of the page's entry then; but those of a join or a collapse, of the first page as it was shown, have to be so still.
+/// A right plan is right for each memory in which its stores find their words, and that differs from the one that was shown in flags alone.
+/// The bits that it answers have to be those of the page's entry still. And so is the plan with the word that one of its stores found,
+/// whose bits are those of the page's entry then. Those of a join or a collapse, of the first page as it was shown, have to be so still.
 pub fn plans_are_right_again()
     ensures elsewhere { (target : Target) (request : Request) (memory now : Memory) (space : Space)
         (offered : List (Option ℕ)) (plan : Plan)

@@ -27,8 +27,8 @@ pub record IsTableOf (table : PageTable) (space : Space) : Type 0 where
   pub is_space : IsSpace table.depth space
   pub translates : TranslatesAs table.depth table.memory table.root space
 
--- one operation: the answer, and the space of the table after it, are those of a step; a refusal leaves each word as it was, every other
--- answer those off the path of its address and the entries of other pages; no word is given an accessed flag or a dirty flag, and a protect
+-- one operation: the answer, and the space of the table after it, are those of a step. A refusal leaves each word as it was, every other
+-- answer those off the path of its address and the entries of other pages. No word is given an accessed flag or a dirty flag, and a protect
 -- clears those of its page
 pub record IsTableStep (old : PageTable) (action : Action) (answer : Answer) (new : PageTable) : Type 0 where
   pub some_space : (space : Space) × IsTableOf old space

@@ -180,8 +180,8 @@ impl<S: FrameStore> Space<S> {
         self.tables.used()
     }
 
-    /// The frame number of the root. The path through all tables from there meets no fault, and reaches just the frames
-    /// in use, each word of which is 0, or the word that `Entry` writes for a table or for a page of its level, in all bits
+    /// The frame number of the root. The path through all tables from there meets no fault, and reaches just the frames in
+    /// use. Each word of these is 0, or the word that `Entry` writes for a table or for a page of its level, in all bits
     /// but the accessed and the dirty flag. Frame numbers are those of the store: from its base up to below its base plus
     /// its capacity, and below 2^40.
     pub fn root(&self) -> u64

@@ -20,8 +20,8 @@ rights_of word = record { write = is_set word 1; user = is_set word 2; exec = no
 abbrev pub is_leaf : ℕ → ℕ → Bool
 is_leaf level word = (level == 1) || (nat_le level 3 && is_set word 7)
 
--- whether a present word has a reserved bit set: in a page of 2 MiB one of bits 20:13, in one of 1 GiB one of bits 29:13, in one
--- of 4 KiB none; in an entry that maps no page bit 7
+-- whether a present word has a reserved bit set. In a page of 2 MiB that is one of bits 20:13, in one of 1 GiB one of bits
+-- 29:13, in one of 4 KiB none, and in an entry that maps no page bit 7
 abbrev pub has_reserved : ℕ → ℕ → Bool
 has_reserved level word = if is_leaf level word then not (word % entry_bytes level / 2 ^ 13 == 0) else is_set word 7
 

@@ -68,8 +68,8 @@ pub fn four_levels_fit_in_five()
     ensures query { (query : Query) → IsQuery Depth.Four query → IsQuery Depth.Five query }
 {}
 
-/// What two sets of rights have in common allows an access exactly where each of them does; a supervisor's read is always
-/// allowed; and the code of a fault says what the access was, and whether a page covers its address.
+/// What two sets of rights have in common allows an access exactly where each of them does, and a supervisor's read is
+/// always allowed. The code of a fault says what the access was, and whether a page covers its address.
 pub fn rights_allow_accesses()
     ensures both { (a b : Rights) (mode : Mode) (access : Access)
         → IsTrue (allows (intersection a b) mode access) ↔

@@ -94,8 +94,8 @@ pub fn reached_once()
         → ⊥) → walk_fault depth memory root ≡ None }
 {}
 
-/// What the first fault says: a missing frame is reached and not in the memory; a shared one is in the memory and is
-/// reached twice; and a word with a reserved bit is in a frame that is reached, as an entry of the level at which the
+/// What the first fault says: a missing frame is reached and not in the memory, and a shared one is in the memory and
+/// is reached twice. A word with a reserved bit is in a frame that is reached, as an entry of the level at which the
 /// frame is reached.
 pub fn faults_are_met()
     ensures missing { (depth : Depth) (memory : Memory) (root number : ℕ)

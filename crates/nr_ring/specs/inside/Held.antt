@@ -30,8 +30,8 @@ pub record IsHeadOf (log : Log) (last : ℕ) (head : List ℕ) : Type 0 where
   pub replicas_are : slice_index head COUNT_WORD ≡ length log.locals
   pub last_is : slice_index head LAST_WORD ≡ last
 
--- the value is all that the pass has seen, among which are the events that it made; it begins with all that it was given; the pass has
--- one right to make events; and its own words are those of a ring
+-- the value is all that the pass has seen, among which are the events that it made, and it begins with all that it was given. The pass
+-- has one right to make events, and its own words are those of a ring
 pub record Remembers (depth : Depth) (replicas passes places : ℕ) (replica : Option ℕ) (ring : ℕ) (pass : CellPass View Stored)
     : Type 0 where
   pub few : replicas ≤ REPLICAS

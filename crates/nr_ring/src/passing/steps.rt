@@ -21,8 +21,8 @@ pub fn looks_keep_the_rule()
         (λ before x found after. Looks depth replicas passes places found before after) }
 {}
 
-/// Where the value is what a pass has seen, an exchange of it for that after one event more keeps the rule: the event may follow, and
-/// the log has the places; the pass has a right, where it is an advance the pass owns the replica, and the ring is that of a pass.
+/// Where the value is what a pass has seen, an exchange of it for that after one event more keeps the rule. The event may follow, and
+/// the log has the places. The pass has a right, where it is an advance the pass owns the replica, and the ring is that of a pass.
 pub fn events_keep_the_rule()
     ensures { (depth : Depth) (replicas passes places pass ring : ℕ) (v : View) (event : LogEvent)
         (stored : Stored) (views : List View)

@@ -117,8 +117,8 @@ impl<J: LogName> RingLog<J> {
     }
 
     /// Looks, appends 1 to 16 entries at the log's depth, and takes all entries from the local tail of the replica that the pass owns to
-    /// the new tail, in one exchange: the place of the first entry of the batch. It gives the entries that lie before the batch, in
-    /// order; after these the replica has taken the batch. The vector is empty. It never waits.
+    /// the new tail, in one exchange. It answers the place of the first entry of the batch. It gives the entries that lie before the
+    /// batch, in order; after these the replica has taken the batch. The vector is empty. It never waits.
     ///
     /// # Errors
     ///

@@ -72,7 +72,7 @@ pub enum Reply {
     /// A reserved bit is set in the word of this frame at this index, from 0 to 511: it links to a frame beyond the physical addresses, or
     /// says what no entry says.
     Reserved(u64, usize),
-    /// By a remap the physical address is no multiple of the size of the page that is there; by a join or a collapse that of the page that
+    /// By a remap the physical address is no multiple of the size of the page that is there. By a join or a collapse that of the page that
     /// is to take the place of the others would be none.
     PhysUnaligned,
     /// By a remap or a collapse the page would not lie below physical 2^51, or not within the physical addresses.
