@@ -28,7 +28,7 @@ use Rattle.vs_types.proofs.BitWords.{page_reads}
 use Rattle.vs_range.specs.declared.run.Run.{Run}
 use Rattle.vs_range.specs.Planner.{map_run}
 use Rattle.vs_range.specs.Run.{IsRunRight}
-use Rattle.vs_range.proofs.OnTable.{is_page_on, canonical_on, level_few, IsAtTable}
+use Rattle.vs_range.proofs.OnTable.{is_page_on, asked_on, canonical_on, level_few, IsAtTable}
 use Rattle.vs_range.proofs.RunRight.{is_new, run_right}
 use Rattle.vs_range.proofs.Sequence.{IsPaged}
 
@@ -91,16 +91,11 @@ module _ (target : Target) (page : Page) (bits count frame index : ℕ) (words :
         ≡ entry.Leaf (page.phys + number * bytes_of page.size) page.rights = ap (meaning (level_of page.size)) word_is ∙ reads in
         record {
           place = refl;
-          good = record {
-            phys_bits = asked.phys_bits;
-            root = asked.root;
-            canonical = good.canonical;
-            whole = record {
-              good = good;
-              within = ends_within page.size page.phys number count (2 ^ target.phys_bits) lt within;
-              bits = asked.whole.bits;
-            };
-          };
+          good = asked_on target (Map page bits) (Map (later_page page number) bits) asked good.canonical (record {
+            good = good;
+            within = ends_within page.size page.phys number count (2 ^ target.phys_bits) lt within;
+            bits = asked.whole.bits;
+          });
           ends_old = ap (λ e. table_in (Some e)) says;
           ends_new = ap (λ e. table_in (Some e)) leads;
           changed = λ no. cc;

@@ -16,8 +16,10 @@ use Rattle.vs_space.specs.Path.{found_at, table_in, table_at, SamePath}
 use Rattle.vs_space.proofs.Paths.{same_table, table_below, none_past, reached_within}
 use Rattle.vs_space.proofs.Prunes.{canonical_stretch}
 use Rattle.vs_space.proofs.Regions.{stretch_same}
+use Rattle.vs_plan.specs.declared.plans.request.Request.{Request}
 use Rattle.vs_plan.specs.declared.plans.target.Target.{Target}
 use Rattle.vs_plan.specs.Premise.{IsPremise, HasOwnWay}
+use Rattle.vs_plan.specs.Request.{IsRequest, IsWhole, address_of}
 use Rattle.vs_plan.specs.Way.{IsWay}
 use Rattle.vs_plan.proofs.Parts.{EndAt}
 use Rattle.vs_plan.proofs.Stored.{found_word}
@@ -59,6 +61,11 @@ pub canonical_on : (depth : Depth) (size : Size) (base number : ℕ) → IsCanon
     → IsCanonical depth (page_on size base number)
 canonical_on depth size base number is on =
     canonical_stretch depth base (page_on size base number) (12 + 9 * level_of size) is (omega (arith, (level_few size).1, four_levels depth)) on.stretch
+
+-- what may be asked of a page may be asked of another one in its table
+pub asked_on : (target : Target) (first on : Request) → IsRequest target first → IsCanonical target.depth (address_of on) → IsWhole target on
+    → IsRequest target on
+asked_on target first on asked canonical whole = record { phys_bits = asked.phys_bits; root = asked.root; canonical = canonical; whole = whole }
 
 -- ---- a way that ends in the same table
 

@@ -29,7 +29,7 @@ use Rattle.vs_types.proofs.BitWords.{with_rights_reads}
 use Rattle.vs_range.specs.Planner.{protect_run}
 use Rattle.vs_range.specs.Run.{pages_flushed, IsRunRight}
 use Rattle.vs_range.specs.Several.{IsDroppedByOne}
-use Rattle.vs_range.proofs.OnTable.{page_on, is_page_on, canonical_on, level_few, IsAtTable}
+use Rattle.vs_range.proofs.OnTable.{page_on, is_page_on, asked_on, canonical_on, level_few, IsAtTable}
 use Rattle.vs_range.proofs.PageFlushes.{one_of, whole_base, leaf_says}
 use Rattle.vs_range.proofs.RunRight.{run_right}
 use Rattle.vs_range.proofs.Sequence.{IsPaged}
@@ -81,12 +81,8 @@ module _ (target : Target) (size : Size) (base count frame index : ℕ) (rights 
         ap (λ z. page_on size base number % bytes_of z) (size_same size) ∙ on.aligned in
         record {
           place = refl;
-          good = record {
-            phys_bits = asked.phys_bits;
-            root = asked.root;
-            canonical = canonical_on target.depth size base number asked.canonical on;
-            whole = whole_base size (page_on size base number) on.aligned;
-          };
+          good = asked_on target (Protect base rights) (Protect (page_on size base number) rights) asked
+              (canonical_on target.depth size base number asked.canonical on) (whole_base size (page_on size base number) on.aligned);
           ends_old = ap (λ e. table_in (Some e)) says;
           ends_new = ap (λ e. table_in (Some e)) leads;
           changed = λ no. cc;

@@ -30,6 +30,7 @@ use Rattle.vs_plan.specs.Way.{IsWay}
 use Rattle.vs_plan.proofs.Pages.{page_here}
 use Rattle.vs_plan.proofs.Stored.{even_absent}
 use Rattle.vs_range.specs.declared.planner.RangePlanner.{RangePlanner}
+use Rattle.vs_range.specs.declared.planner.RangeStep.TheVariants.{Beyond}
 use Rattle.vs_range.specs.Planner.{IsRanged, AwaitsRange, AwaitsNext, as_range, IsPageWord, IsPageAt, IsMapRoom, HasOther}
 use Rattle.vs_range.specs.Planner.{IsMap, IsRunOf, change_of, harvest_run, map_run, protect_run, unmap_run, words_in}
 use Rattle.vs_range.specs.declared.run.Run.{Run}
@@ -67,7 +68,7 @@ range_next memory range offered (steps.See number) next = next
 range_next memory range offered steps.Give next = next
 range_next memory range offered (steps.Planned plan) next = next
 
-pub beyond_bytes : (size : Size) (bytes left : ℕ) → bytes ≡ bytes_of size → left < bytes → left < bytes_of size
+beyond_bytes : (size : Size) (bytes left : ℕ) → bytes ≡ bytes_of size → left < bytes → left < bytes_of size
 beyond_bytes size bytes left same less = subst (λ n. left < n) same less
 
 -- the last page's word is not 0
@@ -172,7 +173,7 @@ module _ (memory : Memory) (range : RangePlanner) (awaits : AwaitsRange range) (
   }
 
   -- the page that begins at the base ends beyond the range
-  pub ends_beyond : (size : Size) → IsPageAt range (slice_index words (index_at range.planner.level range.base)) size → range.bytes < bytes_of size
+  ends_beyond : (size : Size) → IsPageAt range (slice_index words (index_at range.planner.level range.base)) size → range.bytes < bytes_of size
       → (space : Space) → IsPremise range.planner.target.depth memory range.planner.target.root range.base space → EndsBeyond space range.base range.bytes size
   ends_beyond size at few space premise =
       let found = page_here way awaits.words.some (word_of memory range.planner.number (index_at range.planner.level range.base) (Some words) got) premise
@@ -188,6 +189,14 @@ module _ (memory : Memory) (range : RangePlanner) (awaits : AwaitsRange range) (
     where
       begins : (b a rest : ℕ) → b + rest ≡ a → rest ≡ 0 → b ≡ a
       begins b a rest sum none = omega arith
+
+  -- so it is named, where it is no page of a map
+  pub beyond_next : (word bytes : ℕ) (size : Size) → (IsMap range.planner.request → ⊥) → word ≡ slice_index words (index_at range.planner.level range.base)
+      → IsPageAt range word size → bytes ≡ bytes_of size → range.bytes < bytes → IsRangeNext memory range [] (Beyond size)
+  beyond_next word bytes size other read at same less = (
+    other,
+    ends_beyond size (subst (λ w. IsPageAt range w size) read at) (beyond_bytes size bytes range.bytes same less),
+  )
 
   -- ---- the runs
 

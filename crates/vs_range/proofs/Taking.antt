@@ -15,7 +15,8 @@ use Rattle.vs_plan.proofs.Stored.{even_absent}
 use Rattle.vs_range.specs.declared.planner.RangePlanner.{RangePlanner}
 use Rattle.vs_range.specs.declared.planner.RangeStep.{RangeStep}
 use Rattle.vs_range.specs.declared.planner.RangeStep.TheVariants.{Beyond}
-use Rattle.vs_range.specs.Planner.{IsMap, IsMapRoom, IsPageAt, HasOther, IsInRun, IsRunStep, TakesPage}
+use Rattle.vs_range.specs.inside.Entry.{TakesEntry}
+use Rattle.vs_range.specs.Planner.{FollowsLink, IsMap, IsMapRoom, IsPageAt, HasOther, IsInRun, IsRunStep, TakesPage}
 
 -- a level has pages of one size
 pub same_size : (range : RangePlanner) (word other : ℕ) (size wanted : Size) → IsPageAt range word size → IsPageAt range other wanted → size ≡ wanted
@@ -30,6 +31,20 @@ aligned_at range word size at =
 module _ (range : RangePlanner) (words : List ℕ) where
   abbrev word_here : ℕ
   word_here = slice_index words (index_at range.planner.level range.base)
+
+  -- where there is no link
+  pub absent_links : slice_index words (index_at range.planner.level range.base) % 2 ≡ 0 → (next : ℕ) (own : Rights)
+      → meaning range.planner.level (slice_index words (index_at range.planner.level range.base)) ≡ entry.Table next own → ⊥
+  absent_links even next own link =
+      let both : entry.Table next own ≡ entry.Absent = sym link ∙ even_absent range.planner.level word_here even in
+      cc
+
+  pub page_links : (word : ℕ) (size : Size) → word ≡ slice_index words (index_at range.planner.level range.base) → IsPageAt range word size
+      → (after : RangePlanner) (step : RangeStep) → FollowsLink range words after step
+  page_links word size read at after step = λ next own phase low link within.
+      let both : entry.Leaf at.page.phys at.page.own ≡ entry.Table next own =
+      sym at.page.says ∙ ap (meaning range.planner.level) read ∙ link in
+      cc
 
   -- a map whose page isn't written here
   pub none_maps : (page : Page) (bits word : ℕ) (step : RangeStep) → range.planner.request ≡ Map page bits → word ≡ word_here
@@ -69,12 +84,15 @@ module _ (range : RangePlanner) (words : List ℕ) where
     mapped = λ map phase run. absurd (other map);
   }
 
-  pub beyond_takes : (word : ℕ) (size : Size) → (IsMap range.planner.request → ⊥) → IsPageAt range word size → range.bytes < bytes_of size
-      → TakesPage range words (Beyond size)
-  beyond_takes word size other at few = record {
-    beyond = λ larger seen no_map less. ap Beyond (same_size range word _ size larger at seen.1);
-    within = λ larger seen fits run. absurd (too_few larger (same_size range word _ size larger at seen.1) fits);
-    mapped = λ map phase run. absurd (other map);
+  pub beyond_takes : (word bytes : ℕ) (size : Size) → (IsMap range.planner.request → ⊥) → word ≡ word_here → IsPageAt range word size
+      → bytes ≡ bytes_of size → range.bytes < bytes → (after : RangePlanner) → TakesEntry range words after (Beyond size)
+  beyond_takes word bytes size other read at same_bytes few after = record {
+    taken = record {
+      beyond = λ larger seen no_map less. ap Beyond (same_size range word _ size larger at seen.1);
+      within = λ larger seen fits run. absurd (too_few larger (same_size range word _ size larger at seen.1) fits);
+      mapped = λ map phase run. absurd (other map);
+    };
+    leads = page_links word size read at after (Beyond size);
   } where
     too_few : (larger : Size) → size ≡ larger → bytes_of larger ≤ range.bytes → ⊥
     too_few larger same fits =
@@ -93,32 +111,20 @@ module _ (range : RangePlanner) (words : List ℕ) where
         let less_it : range.bytes < bytes_of size = subst (λ (s : Size). range.bytes < bytes_of s) (sym same) less in
         omega arith
 
-  pub run_takes : (word : ℕ) (size : Size) (step : RangeStep) → IsPageAt range word size → bytes_of size ≤ range.bytes → IsRunStep step
-      → TakesPage range words step
-  run_takes word size step at fits is_run = record {
-    beyond = λ larger seen no_map less. absurd (enough larger (same_size range word _ size larger at seen.1) less);
-    within = λ larger seen fits run. is_run;
-    mapped = λ map phase run. is_run;
+  pub run_takes : (word : ℕ) (size : Size) → word ≡ word_here → IsPageAt range word size → bytes_of size ≤ range.bytes → (after : RangePlanner)
+      → (step : RangeStep) → IsRunStep step → TakesEntry range words after step
+  run_takes word size read at fits after step is_run = record {
+    taken = record {
+      beyond = λ larger seen no_map less. absurd (enough larger (same_size range word _ size larger at seen.1) less);
+      within = λ larger seen fits run. is_run;
+      mapped = λ map phase run. is_run;
+    };
+    leads = page_links word size read at after step;
   } where
     enough : (larger : Size) → size ≡ larger → range.bytes < bytes_of larger → ⊥
     enough larger same less =
         let less_it : range.bytes < bytes_of size = subst (λ (s : Size). range.bytes < bytes_of s) (sym same) less in
         omega arith
-
-  -- where there is no link
-  pub absent_links : slice_index words (index_at range.planner.level range.base) % 2 ≡ 0 → (next : ℕ) (own : Rights)
-      → meaning range.planner.level (slice_index words (index_at range.planner.level range.base)) ≡ entry.Table next own → ⊥
-  absent_links even next own link =
-      let both : entry.Table next own ≡ entry.Absent = sym link ∙ even_absent range.planner.level word_here even in
-      cc
-
-  pub page_links : (word : ℕ) (size : Size) → word ≡ slice_index words (index_at range.planner.level range.base) → IsPageAt range word size
-      → (next : ℕ) (own : Rights) → meaning range.planner.level (slice_index words (index_at range.planner.level range.base)) ≡ entry.Table next own
-      → ⊥
-  page_links word size read at next own link =
-      let both : entry.Leaf at.page.phys at.page.own ≡ entry.Table next own =
-      sym at.page.says ∙ ap (meaning range.planner.level) read ∙ link in
-      cc
 
 -- one page that is the only word of its table
 pub lone_page : (words now : List ℕ) (index at count pages : ℕ) → now ≡ words → index ≡ at → count ≡ 0 → pages ≤ count + 1 → 1 ≤ pages

@@ -36,7 +36,7 @@ use Rattle.vs_plan.proofs.Unmapping.{IsFoundPage, flush_of, unmap_parts}
 use Rattle.vs_plan.proofs.Ways.{way_table}
 use Rattle.vs_range.specs.Planner.{HasOther, unmap_run}
 use Rattle.vs_range.specs.Run.{pages_flushed, IsRunRight}
-use Rattle.vs_range.proofs.OnTable.{page_on, is_page_on, canonical_on, level_few, IsAtTable}
+use Rattle.vs_range.proofs.OnTable.{page_on, is_page_on, asked_on, canonical_on, level_few, IsAtTable}
 use Rattle.vs_range.proofs.PageFlushes.{one_of, whole_base, leaf_says}
 use Rattle.vs_range.proofs.RunRight.{is_new, run_right}
 use Rattle.vs_range.proofs.Sequence.{IsPaged, AreOld}
@@ -188,12 +188,8 @@ module _ (target : Target) (size : Size) (base count frame index : ℕ) (given :
         let absent = even_absent level 0 refl in
         record {
           place = refl;
-          good = record {
-            phys_bits = asked.phys_bits;
-            root = asked.root;
-            canonical = canonical_on target.depth size base number asked.canonical on;
-            whole = whole_base size (page_on size base number) on.aligned;
-          };
+          good = asked_on target (Unmap base) (Unmap (page_on size base number)) asked
+              (canonical_on target.depth size base number asked.canonical on) (whole_base size (page_on size base number) on.aligned);
           ends_old = ap (λ e. table_in (Some e)) says;
           ends_new = ap (λ e. table_in (Some e)) absent;
           changed = λ no. cc;

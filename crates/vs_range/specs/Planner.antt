@@ -317,8 +317,8 @@ pub record IsAbsentFor (memory : Memory) (range : RangePlanner) (bytes : ℕ) : 
   pub longest : ((range.base + bytes) % table_bytes level ≡ 0)
       ⊎ (slice_index (words_in memory number) (index_at level (range.base + bytes)) % 2 ≢ 0)
 
--- behind a run nothing follows that the request takes too: for a map the entry is present, or the page would not lie within the physical addresses;
--- else no page begins there; or it is the only other word of the table, which an unmap leaves for the last
+-- behind a run nothing follows that the request takes too. For a map the entry there is present, or the page would go beyond the physical addresses.
+-- Otherwise no page begins there; or it is the table's only other word, which an unmap leaves for the last
 abbrev pub EndsAtWord : RangePlanner → Run → List ℕ → Request → Type 0
 EndsAtWord range run words (Map page bits) = (slice_index words (run.index + run.count) % 2 ≢ 0)
     ⊎ (2 ^ min range.planner.target.phys_bits 51 < page.phys + (run.count + 1) * bytes_of run.size)

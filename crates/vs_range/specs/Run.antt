@@ -112,8 +112,8 @@ SufficesAfter depth root memory stores flushes = (earlier lived : List Moment) (
 
 -- a run for a request, in a memory that translates as the space
 pub record IsRunRight (target : Target) (request : Request) (memory : Memory) (space : Space) (run : Run) : Type 0 where
-  -- what came of it is what came of the calls page by page: each was done, with a plan that is right where those before it left memory and space;
-  -- whatever frames were unlinked before, if the run's is none of them
+  -- what came of it is what comes of a call for each page: each is done, by a plan that is right for the memory and the space after those before it.
+  -- Any frames may have been unlinked before but the run's own
   pub calls : List Call
   pub count : length calls ≡ run.count
   pub asked : AskInTurn request run.size 0 calls

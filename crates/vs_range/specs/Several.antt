@@ -27,8 +27,8 @@ pub record Call : Type 0 where
   pub memory : Memory
   pub plan : Plan
 
--- before a plan: the memory has changed only where no way leads; these frames, which are unlinked, are as they were, and the plan writes
--- into none of them; what a plan asks of the memory holds, and it is right
+-- before a plan the memory has changed only where no way leads. These frames, which are unlinked, are as they were, and the plan writes into none
+-- of them. What a plan asks of the memory holds, and it is right
 pub record IsRightThen (target : Target) (memory : Memory) (space : Space) (gone : List ℕ) (call : Call) : Type 0 where
   pub tables : HasSameTables target.depth target.root memory call.memory
   pub stays : (number : ℕ) → Contains gone number → finite.get call.memory number ≡ finite.get memory number

@@ -17,8 +17,8 @@ ghost use Rattle.vs_plan.specs.Right.{begun, ended};
 ghost use Rattle.vs_plan.specs.Stores.{stored_all};
 ghost use Rattle.vs_range.specs.Several.{Call, AreRight, FindsOneOf, HaveAll, HaveAllInOrder, ended_all, flushed_by, flushed_while, flushes_of, from_tables, unlinked_by, while_planned};
 
-/// Plans one after another need no flush between them. A processor that was up to date before the first is so again once the stores of all
-/// are made and it has flushed all that each of their flushes drops, in any order, if it reads nothing between two flushes. If it reads
+/// Plans one after another need no flush between them. Let a processor be up to date before the first plan. It is so again once the stores of
+/// all are made and it has flushed all that each of their flushes drops. The order is free if it reads nothing between two flushes. If it reads
 /// between them, it is up to date after the last one where they come in an order that counts (`flushes_come_in_order`). Processors may set flags
 /// meanwhile: before each plan, among its stores, before the flushes and between them. No way leads to a frame that one of them has unlinked;
 /// but until those flushes a processor may read it, and so no later plan may write into it. After them nothing that is kept leads into one:
@@ -74,8 +74,8 @@ pub fn flushes_of_several_plans_suffice()
         → FindsOneOf target.depth target.root memory (calls ++ call ∷ []) address end }
 {}
 
-/// Flushes that have all that those of some plans drop come in an order that counts, if the first of them drops what is kept of tables too, as
-/// each INVLPG does; or if none does; or if they are the plans' own, in their order.
+/// Flushes that drop all that those of some plans drop come in an order that counts in three cases. The first of them drops what is kept of
+/// tables too, as each INVLPG does; or none of them does; or they are the plans' own, in their order.
 pub fn flushes_come_in_order()
     ensures tables { (calls : List Call) (flushes : List Flush) → from_tables flushes ≡ flushes
         → HaveAll flushes calls → HaveAllInOrder flushes calls }

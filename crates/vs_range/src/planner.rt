@@ -11,6 +11,7 @@ ghost use Rattle.vs_plan.specs.declared.plans.planner.Phase.{Phase};
 ghost use Rattle.vs_range.specs.Planner.{AwaitsNext, AwaitsRange, HasGivenFor, HasRoom, IsNewRange, IsRanged, IsRangeNext};
 ghost use Rattle.vs_range.specs.Planner.{FollowsLink, IsSameRange, IsSeenNext, TakesPage, are_pages, as_range, map_fault, range_fault, range_gives_left};
 ghost use Rattle.vs_range.specs.Planner.{range_sees, range_sees_left};
+ghost use Rattle.vs_range.specs.inside.Entry.{HasReadEntry, IsStep};
 
 use crate::room::{are_pages, ends_late};
 use crate::run::Run;
@@ -217,17 +218,8 @@ impl RangePlanner {
     /// The next step of the first page's planner. It keeps its plan in a place of its own.
     #[inline(never)]
     pub(crate) fn follow_alone<W: FrameWords>(&mut self, word: u64, words: &mut W) -> RangeStep
-        requires awaits { AwaitsRange self.old }
-        requires phase { self.old.planner.phase ≡ Phase.Descent }
-        requires read { word ≡ slice_index (W.words words.old)
-            (index_at self.old.planner.level self.old.base) }
-        requires unread { (i : ℕ) → i < FRAME_WORDS
-            → i ≢ index_at self.old.planner.level self.old.base → W.is_unread words.old i }
-        ensures same { IsSameRange self.old self.new }
-        ensures awaits { AwaitsNext self.new result }
-        ensures fewer { range_sees_left self.new result < range_sees self.old }
-        ensures given { HasGivenFor self.new [] result }
-        ensures room { HasRoom result }
+        requires entry { HasReadEntry self.old (W.words words.old) (W.is_unread words.old) word }
+        ensures step { IsStep self.old self.new result }
         ensures next { IsSeenNext self.old (W.words words.old) self.new result }
         ensures leads { FollowsLink self.old (W.words words.old) self.new result }
     {

@@ -6,8 +6,9 @@ ghost use Rattle.vs_types.specs.Page.{bytes_of};
 ghost use Rattle.vs_types.specs.declared.addresses.page.Size.{Size};
 ghost use Rattle.vs_plan.specs.declared.plans.request.Request.{Request};
 ghost use Rattle.vs_plan.specs.declared.plans.planner.Phase.{Phase};
-ghost use Rattle.vs_range.specs.Planner.{AwaitsNext, AwaitsRange, HasGivenFor, HasRoom, IsMap, IsMapRoom, IsPageAt, IsSameRange};
-ghost use Rattle.vs_range.specs.Planner.{FollowsLink, IsSeenNext, TakesPage, range_sees, range_sees_left};
+ghost use Rattle.vs_range.specs.Planner.{AwaitsNext, AwaitsRange, HasGivenFor, HasRoom, IsMap, IsMapRoom, IsPageAt};
+ghost use Rattle.vs_range.specs.Planner.{IsSeenNext, range_sees_left};
+ghost use Rattle.vs_range.specs.inside.Entry.{HasReadEntry, IsStep, TakesEntry};
 
 use crate::made::{run_of_harvest, run_of_map, run_of_protect, run_of_unmap};
 use crate::planner::{RangePlanner, RangeStep};
@@ -27,21 +28,11 @@ impl RangePlanner {
         word: u64,
         words: &mut W,
     ) -> RangeStep
-        requires awaits { AwaitsRange self.old }
-        requires phase { self.old.planner.phase ≡ Phase.Descent }
+        requires entry { HasReadEntry self.old (W.words words.old) (W.is_unread words.old) word }
         requires request { self.old.planner.request ≡ Request.Map page bits }
-        requires read { word ≡ slice_index (W.words words.old)
-            (index_at self.old.planner.level self.old.base) }
-        requires unread { (i : ℕ) → i < FRAME_WORDS
-            → i ≢ index_at self.old.planner.level self.old.base → W.is_unread words.old i }
-        ensures same { IsSameRange self.old self.new }
-        ensures awaits { AwaitsNext self.new result }
-        ensures fewer { range_sees_left self.new result < range_sees self.old }
-        ensures given { HasGivenFor self.new [] result }
-        ensures room { HasRoom result }
+        ensures step { IsStep self.old self.new result }
         ensures next { IsSeenNext self.old (W.words words.old) self.new result }
-        ensures taken { TakesPage self.old (W.words words.old) result }
-        ensures leads { FollowsLink self.old (W.words words.old) self.new result }
+        ensures entry { TakesEntry self.old (W.words words.old) self.new result }
     {
         let most = self.most_mapped(page, word);
         if most == 0 {
@@ -90,8 +81,7 @@ impl RangePlanner {
         ensures given { HasGivenFor self.now [] result }
         ensures room { HasRoom result }
         ensures next { IsSeenNext self.now (W.words words.old) self.now result }
-        ensures taken { TakesPage self.now (W.words words.old) result }
-        ensures leads { FollowsLink self.now (W.words words.old) self.now result }
+        ensures entry { TakesEntry self.now (W.words words.old) self.now result }
     {
         let level = self.planner.level;
         let index = index_at(level, self.base);
@@ -108,21 +98,11 @@ impl RangePlanner {
         word: u64,
         words: &mut W,
     ) -> RangeStep
-        requires awaits { AwaitsRange self.old }
-        requires phase { self.old.planner.phase ≡ Phase.Descent }
+        requires entry { HasReadEntry self.old (W.words words.old) (W.is_unread words.old) word }
         requires request { self.old.planner.request ≡ Request.Protect self.old.base rights }
-        requires read { word ≡ slice_index (W.words words.old)
-            (index_at self.old.planner.level self.old.base) }
-        requires unread { (i : ℕ) → i < FRAME_WORDS
-            → i ≢ index_at self.old.planner.level self.old.base → W.is_unread words.old i }
-        ensures same { IsSameRange self.old self.new }
-        ensures awaits { AwaitsNext self.new result }
-        ensures fewer { range_sees_left self.new result < range_sees self.old }
-        ensures given { HasGivenFor self.new [] result }
-        ensures room { HasRoom result }
+        ensures step { IsStep self.old self.new result }
         ensures next { IsSeenNext self.old (W.words words.old) self.new result }
-        ensures taken { TakesPage self.old (W.words words.old) result }
-        ensures leads { FollowsLink self.old (W.words words.old) self.new result }
+        ensures entry { TakesEntry self.old (W.words words.old) self.new result }
     {
         let Some(size) = self.page_begins(word) else {
             return self.follow_alone(word, words);
@@ -149,21 +129,11 @@ impl RangePlanner {
     /// A run of pages whose flags are taken away, from this word on, or the next step of the first page's planner.
     #[inline(never)]
     pub(crate) fn see_harvest<W: FrameWords>(&mut self, word: u64, words: &mut W) -> RangeStep
-        requires awaits { AwaitsRange self.old }
-        requires phase { self.old.planner.phase ≡ Phase.Descent }
+        requires entry { HasReadEntry self.old (W.words words.old) (W.is_unread words.old) word }
         requires request { self.old.planner.request ≡ Request.Ask self.old.base }
-        requires read { word ≡ slice_index (W.words words.old)
-            (index_at self.old.planner.level self.old.base) }
-        requires unread { (i : ℕ) → i < FRAME_WORDS
-            → i ≢ index_at self.old.planner.level self.old.base → W.is_unread words.old i }
-        ensures same { IsSameRange self.old self.new }
-        ensures awaits { AwaitsNext self.new result }
-        ensures fewer { range_sees_left self.new result < range_sees self.old }
-        ensures given { HasGivenFor self.new [] result }
-        ensures room { HasRoom result }
+        ensures step { IsStep self.old self.new result }
         ensures next { IsSeenNext self.old (W.words words.old) self.new result }
-        ensures taken { TakesPage self.old (W.words words.old) result }
-        ensures leads { FollowsLink self.old (W.words words.old) self.new result }
+        ensures entry { TakesEntry self.old (W.words words.old) self.new result }
     {
         let Some(size) = self.page_begins(word) else {
             return self.follow_alone(word, words);
@@ -187,21 +157,11 @@ impl RangePlanner {
     /// the last page is left to the next planner, or the first one is planned alone.
     #[inline(never)]
     pub(crate) fn see_unmap<W: FrameWords>(&mut self, word: u64, words: &mut W) -> RangeStep
-        requires awaits { AwaitsRange self.old }
-        requires phase { self.old.planner.phase ≡ Phase.Descent }
+        requires entry { HasReadEntry self.old (W.words words.old) (W.is_unread words.old) word }
         requires request { self.old.planner.request ≡ Request.Unmap self.old.base }
-        requires read { word ≡ slice_index (W.words words.old)
-            (index_at self.old.planner.level self.old.base) }
-        requires unread { (i : ℕ) → i < FRAME_WORDS
-            → i ≢ index_at self.old.planner.level self.old.base → W.is_unread words.old i }
-        ensures same { IsSameRange self.old self.new }
-        ensures awaits { AwaitsNext self.new result }
-        ensures fewer { range_sees_left self.new result < range_sees self.old }
-        ensures given { HasGivenFor self.new [] result }
-        ensures room { HasRoom result }
+        ensures step { IsStep self.old self.new result }
         ensures next { IsSeenNext self.old (W.words words.old) self.new result }
-        ensures taken { TakesPage self.old (W.words words.old) result }
-        ensures leads { FollowsLink self.old (W.words words.old) self.new result }
+        ensures entry { TakesEntry self.old (W.words words.old) self.new result }
     {
         let Some(size) = self.page_begins(word) else {
             return self.follow_alone(word, words);

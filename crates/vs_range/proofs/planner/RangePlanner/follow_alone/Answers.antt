@@ -15,9 +15,9 @@ returns-clause-next g c = λ memory shown got.
     } in
     subst (IsRangeNext memory range []) (sym c.step_of.ensures.is)
     (range_next memory range [] c.follow-step.result
-    (c.follow-step.ensures.next memory (descended c.args.self.now.planner c.requires.phase shown) got))
+    (c.follow-step.ensures.next memory (descended c.args.self.now.planner c.requires.entry.phase shown) got))
 
 pub returns-clause-leads : goal.returns-clause-leads
 returns-clause-leads g c = λ next own phase low link within.
-    let on = c.follow-step.ensures.leads next own low (ap (meaning c.args.self.now.planner.level) c.requires.read ∙ link) within in
+    let on = c.follow-step.ensures.leads next own low (ap (meaning c.args.self.now.planner.level) c.requires.entry.read ∙ link) within in
     (c.step_of.ensures.is ∙ ap as_range on.0, on.1, on.2, refl)

@@ -11,9 +11,9 @@ returns-clause-next g c = λ memory shown got.
     c.entry_bytes-bytes.ensures.is
     (omega (arith, c.requires.awaits.words.few, few_levels c.args.self.now.planner.target.depth))
 
-pub returns-clause-taken : goal.returns-clause-taken
-returns-clause-taken g c = absent_takes c.args.self.now (g.W.FrameWords.words c.args.words.now) _ c.requires.kind c.requires.absent
-
-pub returns-clause-leads : goal.returns-clause-leads
-returns-clause-leads g c = λ next own phase low link within.
-    absurd (absent_links c.args.self.now (g.W.FrameWords.words c.args.words.now) c.requires.absent next own link)
+pub returns-clause-entry : goal.returns-clause-entry
+returns-clause-entry g c = record {
+  taken = absent_takes c.args.self.now (g.W.FrameWords.words c.args.words.now) _ c.requires.kind c.requires.absent;
+  leads = λ next own phase low link within.
+      absurd (absent_links c.args.self.now (g.W.FrameWords.words c.args.words.now) c.requires.absent next own link);
+}

@@ -1,4 +1,4 @@
-use Rattle.std.proofs.Common.{◌≡◌, ◌+◌, ◌*◌, ◌^◌, ◌<◌, ◌⊎◌, min, sym, ap, subst, arith}
+use Rattle.std.proofs.Common.{◌≡◌, ◌+◌, ◌*◌, ◌^◌, ◌<◌, ◌⊎◌, min, sym, ap, subst, arith, rules}
 use Rattle.vs_types.specs.Page.{bytes_of}
 use Rattle.vs_plan.specs.Request.{lowest_of}
 use Rattle.vs_range.specs.Planner.{IsRunNext}
@@ -9,8 +9,8 @@ use Rattle.vs_range.proofs.planner.RangePlanner.see_map.Goals as goal
 pub returns-clause-next : goal.returns-clause-next
 returns-clause-next g c = λ memory shown got.
     subst (IsRunNext memory c.args.self.now) (sym c.run_of_map.ensures)
-    (map_next memory c.args.self.now c.requires.awaits c.requires.phase shown (g.W.FrameWords.words c.args.words.now) got c.args.page c.args.bits c.args.word
-    c.index_at-index.result c.count_alike-alike.result.count c.most_mapped-most.result c.requires.request
+    (map_next memory c.args.self.now c.requires.entry.awaits c.requires.entry.phase shown (g.W.FrameWords.words c.args.words.now) got c.args.page c.args.bits
+    c.args.word c.index_at-index.result c.count_alike-alike.result.count c.most_mapped-most.result c.requires.request
     (c.most_mapped-most.ensures.room (omega (arith, c.if-most-eq0.false))) c.index_at-index.ensures.is c.count_alike-alike.ensures.some
     c.count_alike-alike.ensures.most c.count_alike-alike.ensures.alike
     (map_ends c.index_at-index.result c.count_alike-alike.result.count c.most_mapped-most.result c.args.self.now.bytes (bytes_of c.args.page.size)
@@ -20,14 +20,17 @@ returns-clause-next g c = λ memory shown got.
     ⊎ (2 ^ min c.args.self.now.planner.target.phys_bits 51 < c.args.page.phys + (c.most_mapped-most.result + 1) * bytes_of c.args.page.size)))
     (sym c.index_at-index.ensures.is) (c.most_mapped-most.ensures.most (omega (arith, c.if-most-eq0.false))))))
 
-pub returns-then-most-eq0-clause-taken : goal.returns-then-most-eq0-clause-taken
-returns-then-most-eq0-clause-taken g c = none_maps c.args.self.now (g.W.FrameWords.words c.args.words.now) c.args.page c.args.bits c.args.word _
-    c.requires.request c.requires.read (c.most_mapped-most.ensures.none (omega (arith, c.if-most-eq0.true)))
+pub returns-then-most-eq0-clause-entry : goal.returns-then-most-eq0-clause-entry
+returns-then-most-eq0-clause-entry g c = record {
+  taken = none_maps c.args.self.now (g.W.FrameWords.words c.args.words.now) c.args.page c.args.bits c.args.word _
+      c.requires.request c.requires.entry.read (c.most_mapped-most.ensures.none (omega (arith, c.if-most-eq0.true)));
+  leads = search rules;
+}
 
-pub returns-clause-taken : goal.returns-clause-taken
-returns-clause-taken g c = run_maps c.args.self.now (g.W.FrameWords.words c.args.words.now) c.args.page c.args.bits _ c.requires.request tt
-
-pub returns-clause-leads : goal.returns-clause-leads
-returns-clause-leads g c = λ next own phase low link within.
-    let room = c.most_mapped-most.ensures.room (omega (arith, c.if-most-eq0.false)) in
-    absurd (omega (arith, low, room.level, ap lowest_of c.requires.request))
+pub returns-clause-entry : goal.returns-clause-entry
+returns-clause-entry g c = record {
+  taken = run_maps c.args.self.now (g.W.FrameWords.words c.args.words.now) c.args.page c.args.bits _ c.requires.request tt;
+  leads = λ next own phase low link within.
+      let room = c.most_mapped-most.ensures.room (omega (arith, c.if-most-eq0.false)) in
+      absurd (omega (arith, low, room.level, ap lowest_of c.requires.request));
+}
