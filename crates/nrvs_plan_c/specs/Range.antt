@@ -78,7 +78,7 @@ pub record KeepsRange (before after : Run) : Type 0 where
   pub base : after.base ≡ before.base
   pub bytes : after.bytes ≡ before.bytes
 
--- a status: 32 and 33 of what is waited for; and of what has ended 0 with a plan, 34 with a run, 35 with one that takes flags, 36 where no page
+-- a status: 32 and 33 say what is waited for. A range has ended by 0 with a plan, 34 with a run, 35 with one that takes flags, 36 where no page
 -- lies and 37 where one ends beyond the range. A run lies in its table, and a plan unlinks no more frames than there is room for
 pub record IsRangeStatus (run : Run) (status : ℕ) : Type 0 where
   pub one : (status ≡ 0) ⊎ ((32 ≤ status) × (status ≤ 37))
@@ -123,8 +123,8 @@ pub record IsRangeNextOf (memory : Memory) (run : Run) (offered : List (Option �
 abbrev pub IsRunStatus : ℕ → Type 0
 IsRunStatus status = (status ≡ 34) ⊎ (status ≡ 35)
 
--- what became of a range that was shown these words: a page that is seen at its base is named, by 37 and its size, where it ends beyond the range, and
--- else dealt with in a run, not alone; and so is one that a map has room for
+-- what became of a range that was shown these words. A page that is seen at its base is named, by 37 and its size, where it ends beyond the range.
+-- Otherwise it is dealt with in a run, not alone; and so is a page that a map has room for
 pub record TakesPageOf (range : RangePlanner) (words : List ℕ) (run : Run) (status : ℕ) : Type 0 where
   pub beyond : (size : Size) → IsSeenPage range words size → (IsMap range.planner.request → ⊥) → range.bytes < bytes_of size
       → (status ≡ 37) × (run.size ≡ size_code size)

@@ -1,5 +1,5 @@
 //! How a plan begins.
-ghost use Rattle.std.specs.Prelude.{◌≡◌, ◌≢◌, ◌<◌, ◌≤◌, ℕ, MatchResult};
+ghost use Rattle.std.specs.Prelude.{◌≡◌, ◌≢◌, ◌<◌, ◌≤◌, ℕ, IfErr, MatchResult, nat_lt, if◌then◌else◌};
 ghost use Rattle.vs_types.specs.Depth.{levels};
 ghost use Rattle.vs_plan.specs.declared.plans.request.Request.{Request};
 ghost use Rattle.vs_plan.specs.Request.{IsRequest, request_fault};
@@ -11,7 +11,7 @@ ghost use Rattle.nrvs_plan_c.specs.Status.{begun_status, target_status};
 
 use crate::records::codes::{BRIEF, DESCENT, depth_in};
 use crate::records::kept::{Call, Plan, Target, Way};
-use crate::records::status::{BAD_LEVELS, PHYS_BITS, SEE, status_of};
+use crate::records::status::{BAD_LEVELS, BAD_RIGHTS, PHYS_BITS, SEE, status_of};
 use vs_types::all_allowed;
 
 /// A level above that of each root.
@@ -48,6 +48,34 @@ pub(crate) fn call_of(target: &Target, kind: u8, address: u64) -> Result<Call, u
         kind,
         size: 0,
         rights: 0,
+    })
+}
+
+/// The numbers of a call of this kind with rights.
+///
+/// # Errors
+///
+/// As `call_of`; then the status where the code means no rights.
+#[inline(always)]
+pub(crate) fn call_with(target: &Target, kind: u8, address: u64, rights: u32) -> Result<Call, u32>
+    ensures made { MatchResult result
+        (λ call. (target_status target.now.levels target.now.phys_bits 0 ≡ 0)
+        × (target_in call ≡ target_of target.now)
+        × (call.kind ≡ kind)
+        × (call.address ≡ address)
+        × (rights ≤ 7)
+        × (call.rights ≡ rights))
+        (λ status. status ≢ 32) }
+    ensures refused { IfErr result (λ status. (rest : ℕ) → target_status target.now.levels
+        target.now.phys_bits (if nat_lt 7 rights then 7 else rest) ≡ status) }
+{
+    let call = call_of(target, kind, address)?;
+    if rights > 7 {
+        return Err(BAD_RIGHTS);
+    }
+    Ok(Call {
+        rights: rights as u8,
+        ..call
     })
 }
 

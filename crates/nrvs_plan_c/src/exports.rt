@@ -14,7 +14,7 @@ ghost use Rattle.nrvs_plan_c.specs.Next.{HasBegun, IsNextOf, status_in};
 ghost use Rattle.nrvs_plan_c.specs.Told.{plan_again, store_at};
 ghost use Rattle.nrvs_plan_c.specs.Status.{begun_status, target_status};
 
-use crate::begin::{begin, call_of};
+use crate::begin::{begin, call_of, call_with};
 use crate::next::go_on;
 use crate::records::codes::{DESCENT, ENDED, SEARCH, takes_frame};
 use crate::records::kept::{Call, Plan, Target, Words, open};
@@ -95,18 +95,10 @@ pub extern "C" fn nrvs_plan_protect(plan: &mut Plan, target: &Target, base: u64,
     ensures begun { result ≡ 32 → HasBegun plan.new }
     ensures refused { result ≢ 32 → plan.new ≡ plan.old }
 {
-    let call = match call_of(target, 2, base) {
-        Ok(call) => call,
-        Err(status) => return status,
-    };
-    if rights > 7 {
-        return BAD_RIGHTS;
+    match call_with(target, 2, base, rights) {
+        Ok(call) => begin(plan, call),
+        Err(status) => status,
     }
-    let call = Call {
-        rights: rights as u8,
-        ..call
-    };
-    begin(plan, call)
 }
 
 /// Begins the plan of a remap.
@@ -128,19 +120,10 @@ pub extern "C" fn nrvs_plan_remap(
     ensures begun { result ≡ 32 → HasBegun plan.new }
     ensures refused { result ≢ 32 → plan.new ≡ plan.old }
 {
-    let call = match call_of(target, 4, base) {
-        Ok(call) => call,
-        Err(status) => return status,
-    };
-    if rights > 7 {
-        return BAD_RIGHTS;
+    match call_with(target, 4, base, rights) {
+        Ok(call) => begin(plan, Call { physical, ..call }),
+        Err(status) => status,
     }
-    let call = Call {
-        physical,
-        rights: rights as u8,
-        ..call
-    };
-    begin(plan, call)
 }
 
 /// Begins the plan of a split.

@@ -6,9 +6,8 @@ ghost use Rattle.nrvs_plan_c.specs.Kept.{request_in, rights_in, target_in, targe
 ghost use Rattle.nrvs_plan_c.specs.Next.{HasBegun};
 ghost use Rattle.nrvs_plan_c.specs.Status.{begun_status, target_status};
 
-use crate::begin::{begin, call_of};
+use crate::begin::{begin, call_of, call_with};
 use crate::records::kept::{Call, Plan, Target};
-use crate::records::status::BAD_RIGHTS;
 
 /// Begins the plan of an unmap of parts of a page.
 #[unsafe(no_mangle)]
@@ -57,17 +56,8 @@ pub extern "C" fn nrvs_plan_collapse(
     ensures begun { result ≡ 32 → HasBegun plan.new }
     ensures refused { result ≢ 32 → plan.new ≡ plan.old }
 {
-    let call = match call_of(target, 9, base) {
-        Ok(call) => call,
-        Err(status) => return status,
-    };
-    if rights > 7 {
-        return BAD_RIGHTS;
+    match call_with(target, 9, base, rights) {
+        Ok(call) => begin(plan, Call { physical, ..call }),
+        Err(status) => status,
     }
-    let call = Call {
-        physical,
-        rights: rights as u8,
-        ..call
-    };
-    begin(plan, call)
 }

@@ -15,6 +15,7 @@ ghost use Rattle.nrvs_plan_c.specs.Kept.{page_in, phase_in, planner_in, request_
 ghost use Rattle.nrvs_plan_c.specs.Next.{HasBegun};
 ghost use Rattle.nrvs_plan_c.specs.Range.{are_whole, map_range_status, range_in, range_sees_in, range_status, HasBegunRange, IsRangeNextOf, IsRangeStatus, IsSoundRange, KeepsRange, TakesPageOf};
 ghost use Rattle.nrvs_plan_c.specs.Status.{begun_status, target_status};
+ghost use Rattle.nrvs_plan_c.specs.inside.Seen.{IsRangeStep};
 ghost use Rattle.nrvs_plan_c.specs.inside.Stepped.{FollowsLinkOf};
 
 use crate::begin::start;
@@ -259,12 +260,7 @@ pub(crate) fn see_range<W: FrameWords>(run: &mut Run, words: &mut W) -> u32
     requires sound { IsSoundRange run.old }
     requires waits { run.old.plan.way.phase ≤ SEARCH }
     requires unread { (i : ℕ) → i < FRAME_WORDS → W.is_unread words.old i }
-    ensures asked { result ≢ 17 }
-    ensures status { IsRangeStatus run.new result }
-    ensures sound { IsSoundRange run.new }
-    ensures kept { KeepsRange run.old run.new }
-    ensures fewer { result ≡ 32 → range_sees_in run.new < range_sees_in run.old }
-    ensures given { result ≡ 33 → frames_given (planner_in run.new.plan) ≡ [] }
+    ensures step { IsRangeStep run.old run.new result }
     ensures next { (memory : Memory) → IsShown memory (planner_in run.old.plan)
         → finite.get memory run.old.plan.frame ≡ Some (W.words words.old)
         → IsRangeNextOf memory run.new [] result }
@@ -297,12 +293,7 @@ fn follow_by<W: FrameWords>(
         (index_at run.old.plan.way.level run.old.plan.call.address) }
     requires unread { (i : ℕ) → i < FRAME_WORDS
         → i ≢ index_at run.old.plan.way.level run.old.plan.call.address → W.is_unread words.old i }
-    ensures asked { result ≢ 17 }
-    ensures status { IsRangeStatus run.new result }
-    ensures sound { IsSoundRange run.new }
-    ensures kept { KeepsRange run.old run.new }
-    ensures fewer { result ≡ 32 → range_sees_in run.new < range_sees_in run.old }
-    ensures given { result ≡ 33 → frames_given (planner_in run.new.plan) ≡ [] }
+    ensures step { IsRangeStep run.old run.new result }
     ensures next { (memory : Memory) → IsShown memory (planner_in run.old.plan)
         → finite.get memory run.old.plan.frame ≡ Some (W.words words.old)
         → IsRangeNextOf memory run.new [] result }

@@ -12,7 +12,7 @@ use vs_types::{Answer, flags_into};
 #[repr(C)]
 #[derive(Clone, Copy, Debug, PartialEq, Eq)]
 pub struct Reply {
-    /// 0 to 9 as an answer; 10 no frame, 11 a frame out of range, 12 too few rights, 13 an empty table, 14 a reserved bit, 15 a physical
+    /// 0 to 9 as an answer. 10 no frame, 11 a frame out of range, 12 too few rights, 13 an empty table, 14 a reserved bit. 15 a physical
     /// address that isn't aligned, 16 one out of range, 17 the smallest page, 18 the largest, 19 no first page, 20 an entry apart, 21 a table that
     /// stays.
     pub code: u8,

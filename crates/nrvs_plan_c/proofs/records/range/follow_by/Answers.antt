@@ -1,4 +1,4 @@
-use Rattle.std.proofs.Common.{[], ◌<◌, sym, ap, subst, ◌∙◌, arith}
+use Rattle.std.proofs.Common.{[], ◌<◌, sym, ap, subst, ◌∙◌, arith, rules}
 use Rattle.std.specs.FinMap as finite
 use Rattle.vs_plan.specs.Shown.{IsShown}
 use Rattle.vs_range.specs.declared.planner.RangePlanner.{RangePlanner}
@@ -8,13 +8,17 @@ use Rattle.nrvs_plan_c.proofs.Keeping.{target_kept}
 use Rattle.nrvs_plan_c.proofs.RangesTaken.{leads_of, taken_of}
 use Rattle.nrvs_plan_c.proofs.records.range.follow_by.Goals as goal
 
-pub returns-clause-given : goal.returns-clause-given
-returns-clause-given g c = λ is. c.go_on_range.ensures.given [] is c.follow-step.ensures.given
-
-pub returns-clause-fewer : goal.returns-clause-fewer
-returns-clause-fewer g c = λ is. subst (λ n. n < range_sees_in c.args.run.now) (sym (c.go_on_range.ensures.fewer is))
-    (subst (λ (r : RangePlanner). range_sees_left c.follow-step.new.self c.follow-step.result < range_sees r) c.requires.range
-    c.follow-step.ensures.fewer)
+pub returns-clause-step : goal.returns-clause-step
+returns-clause-step g c = record {
+  asked = search rules;
+  status = search rules;
+  sound = search rules;
+  kept = search rules;
+  fewer = λ is. subst (λ n. n < range_sees_in c.args.run.now) (sym (c.go_on_range.ensures.fewer is))
+      (subst (λ (r : RangePlanner). range_sees_left c.follow-step.new.self c.follow-step.result < range_sees r) c.requires.range
+      c.follow-step.ensures.fewer);
+  given = λ is. c.go_on_range.ensures.given [] is c.follow-step.ensures.given;
+}
 
 pub returns-clause-next : goal.returns-clause-next
 returns-clause-next g c = λ memory shown there.

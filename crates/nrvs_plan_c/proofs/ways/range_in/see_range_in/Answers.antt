@@ -37,7 +37,8 @@ loop-status-init c =
 
 pub loop-status-preserved : goal.loop-status-preserved
 loop-status-preserved c =
-    let step = c.see_range-status.ensures in
+    let seen = c.see_range-status.ensures in
+    let step = seen.step in
     let at = c.in-Some.ensures.there in
     let before = c.loop-status.invariant in
     let awaits = awaits_words (phase_in c.loop-status.run.plan.way.phase) (before.1.sees c.loop-status-test.true) before.0.plan.waits in
@@ -56,9 +57,9 @@ loop-status-preserved c =
         bytes = step.kept.bytes ∙ before.2.bytes;
       },
       step.given,
-      λ memory has. step.next memory ((before.4 memory has).sees c.loop-status-test.true) (there memory has),
+      λ memory has. seen.next memory ((before.4 memory has).sees c.loop-status-test.true) (there memory has),
       λ memory has none. comes_on memory c.loop-status.run c.see_range-status.new.run c.in-Some.words.now.word c.see_range-status.result before.0
-          ((before.4 memory has).sees c.loop-status-test.true) (there memory has) step.taken step.leads
+          ((before.4 memory has).sees c.loop-status-test.true) (there memory has) seen.taken seen.leads
           (subst (λ (call : Call). HasNoneBeyond (target_in call) memory) (sym before.2.call) none) step.kept
           (subst (ComesDown memory c.loop-status.run) c.loop-status-test.true (before.5 memory has none)),
     )
