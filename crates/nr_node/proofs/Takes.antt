@@ -1,5 +1,5 @@
 -- What a node is where it takes, or follows, all entries.
-use Rattle.std.proofs.Common.{◌≡◌, ℕ, ◌+◌, ◌≤◌, List, [], ◌∷◌, ◌++◌, All, Option, Some, None, length, drop, take, get_or, ap, sym, subst}
+use Rattle.std.proofs.Common.{◌≡◌, ℕ, ◌+◌, ◌-◌, ◌≤◌, List, [], ◌∷◌, ◌++◌, All, Option, Some, None, length, drop, take, get_or, ap, sym, subst}
 use Rattle.std.proofs.Common.{◌∙◌, arith}
 use Rattle.std.proofs.Math.ListN.{length-append}
 use Rattle.std.proofs.Math.Seq.{take-length}
@@ -19,8 +19,16 @@ use Rattle.nr_node.specs.Calls.{HasCaughtUp, HasFollowed, answers_of, left_of}
 use Rattle.nr_node.specs.Node.{IsNode, StandFrom, replica_of}
 use Rattle.nr_node.specs.inside.Node.{Follows, IsAhead, node_state}
 use Rattle.nr_node.specs.inside.Replica.{ReplicaState}
+use Rattle.nr_node.proofs.Lists.{slice_from}
 use Rattle.nr_node.proofs.Looks.{TookAll, looked_taken, took_local}
 use Rattle.nr_node.proofs.Nodes.{ends_within, stand_still, take_still}
+
+-- a replica with what a slice has from a place on, by the list of which the slice is
+pub applied_from : (replica : ReplicaState) (ahead : ℕ) (slice whole : List LogEntry) → slice ≡ whole
+    → record replica { entries = replica.entries ++ take (length slice - ahead) (drop ahead slice) }
+    ≡ record replica { entries = replica.entries ++ drop ahead whole }
+applied_from replica ahead slice whole same =
+    ap (λ (l : List LogEntry). record replica { entries = replica.entries ++ l }) (slice_from ahead slice whole same)
 
 -- ---- all entries taken
 
@@ -46,12 +54,12 @@ left_few : (first : Option ℕ) (batch : List Waiting) → length batch ≤ RING
 left_few None batch few = few
 left_few (Some place) batch few = omega arith
 
-pub took_node : (depth : Depth) (replicas : ℕ) (known after : Known) (replica next : ReplicaState) (batch : List Waiting) (first : Option ℕ)
-    (entries : List LogEntry)
+-- a replica that has these entries too is its node's, with calls that are as they were or fewer, none of which is placed
+moved_node : (depth : Depth) (replicas : ℕ) (known after : Known) (replica next : ReplicaState) (batch left : List Waiting) (first now : Option ℕ)
+    (entries : List LogEntry) → ((place : ℕ) → now ≡ Some place → ⊥) → All (λ waiting. IsAction depth waiting.op) left → length left ≤ RING
     → TookAll depth replicas known.view (length replica.entries) entries after.view → IsNode depth replicas (node_state known replica batch first)
-    → next ≡ record replica { entries = replica.entries ++ entries }
-    → IsNode depth replicas (node_state after next (left_of first batch) None)
-took_node depth replicas known after replica next batch first entries took is same =
+    → next ≡ record replica { entries = replica.entries ++ entries } → IsNode depth replicas (node_state after next left now)
+moved_node depth replicas known after replica next batch left first now entries unplaced fit few took is same =
     let P : List ℕ → Type 0 = λ l. l ≡ Rattle.std.specs.Prelude.slice_index l 0 ∷ [] in
     let many : length next.entries ≡ tail (log_after replicas after.view.seen) =
     ap (λ (r : ReplicaState). length r.entries) same ∙ length-append replica.entries entries ∙ took.count in
@@ -60,10 +68,19 @@ took_node depth replicas known after replica next batch first entries took is sa
       behind = omega (arith, took.low, many);
       written = omega (arith, many);
       kept = omega (arith, ap (λ (r : ReplicaState). r.base) same, is.kept, took.risen);
-      fit = left_holds (λ waiting. IsAction depth waiting.op) first batch is.fit;
-      few = left_few first batch is.few;
-      placed = λ place at. absurd (cc);
+      fit = fit;
+      few = few;
+      placed = λ place at. absurd (unplaced place at);
     }
+
+pub took_node : (depth : Depth) (replicas : ℕ) (known after : Known) (replica next : ReplicaState) (batch : List Waiting) (first : Option ℕ)
+    (entries : List LogEntry)
+    → TookAll depth replicas known.view (length replica.entries) entries after.view → IsNode depth replicas (node_state known replica batch first)
+    → next ≡ record replica { entries = replica.entries ++ entries }
+    → IsNode depth replicas (node_state after next (left_of first batch) None)
+took_node depth replicas known after replica next batch first entries took is same =
+    moved_node depth replicas known after replica next batch (left_of first batch) first None entries (λ place at. cc)
+    (left_holds (λ waiting. IsAction depth waiting.op) first batch is.fit) (left_few first batch is.few) took is same
 
 pub took_follows : (depth : Depth) (replicas : ℕ) (known after : Known) (replica next : ReplicaState) (batch left : List Waiting) (first now : Option ℕ)
     (entries : List LogEntry)
@@ -131,18 +148,7 @@ pub followed_node : (depth : Depth) (replicas : ℕ) (known after : Known) (repl
     → TookAll depth replicas known.view (length replica.entries) entries after.view → IsNode depth replicas (node_state known replica batch first)
     → next ≡ record replica { entries = replica.entries ++ entries } → IsNode depth replicas (node_state after next batch first)
 followed_node depth replicas known after replica next batch first entries unplaced took is same =
-    let P : List ℕ → Type 0 = λ l. l ≡ Rattle.std.specs.Prelude.slice_index l 0 ∷ [] in
-    let many : length next.entries ≡ tail (log_after replicas after.view.seen) =
-    ap (λ (r : ReplicaState). length r.entries) same ∙ length-append replica.entries entries ∙ took.count in
-    record {
-      owner = subst P (sym took.owns) is.owner;
-      behind = omega (arith, took.low, many);
-      written = omega (arith, many);
-      kept = omega (arith, ap (λ (r : ReplicaState). r.base) same, is.kept, took.risen);
-      fit = is.fit;
-      few = is.few;
-      placed = λ place at. absurd (unplaced place at);
-    }
+    moved_node depth replicas known after replica next batch batch first first entries unplaced is.fit is.few took is same
 
 pub followed : (depth : Depth) (replicas : ℕ) (known after : Known) (replica next : ReplicaState) (batch : List Waiting) (first : Option ℕ)
     (entries : List LogEntry)

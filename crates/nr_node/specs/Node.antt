@@ -13,8 +13,8 @@ use Rattle.nr_node.specs.Spaces.{space_at}
 use Rattle.nr_node.specs.declared.held.Held.{Held}
 use Rattle.nr_node.specs.declared.held.Held.TheVariants.{Nothing, Unplaced, Placed}
 
--- its log and what its pass knows of it, how many tables it may have, how many entries of the log it has applied, how many of these it
--- keeps no more, the calls of its batch that are not yet answered, and the place of the first of them, where they have places
+-- its log and what its pass knows of it, and how many tables it may have. How many entries of the log it has applied, and how many of these it
+-- keeps no more. The calls of its batch that are not yet answered, and the place of the first of them, if they have places
 pub record NodeState : Type 0 where
   pub known : Known
   pub tables : ℕ
@@ -50,9 +50,9 @@ pub record IsPlaced (log : Log) (applied first : ℕ) (batch : List Waiting) : T
   pub above : applied ≤ first
   pub stand : StandFrom log.entries first batch
 
--- what each node is: its pass owns a replica, which has taken no entry that the node has not applied; it has applied none that is not there;
--- those that it keeps no more its replica has taken; the calls of its batch are well formed at the log's depth, at most 16, and where they
--- have places they are there
+-- what each node is. Its pass owns a replica, which has taken no entry that the node has not applied. The node has applied none that is not there,
+-- and its replica has taken those that it keeps no more. The calls of its batch are well formed at the log's depth, and at most 16. If they
+-- have places, they are there
 pub record IsNode (depth : Depth) (replicas : ℕ) (node : NodeState) : Type 0 where
   pub owner : node.known.view.owns ≡ replica_of node.known.view ∷ []
   pub behind : taken_by replicas node.known.view ≤ node.applied

@@ -13,7 +13,7 @@ use Rattle.nr_node.specs.inside.Replica.{ReplicaState}
 use Rattle.nr_node.proofs.Lists.{slice_from}
 use Rattle.nr_node.proofs.Looks.{looked_owner, took_all, took_few}
 use Rattle.nr_node.proofs.Nodes.{had_taken, looked_ahead, looked_follows, looked_node}
-use Rattle.nr_node.proofs.Takes.{answers_after, caught_up, next_entries, stands_after, took_ahead, took_fit, took_follows, took_node}
+use Rattle.nr_node.proofs.Takes.{answers_after, applied_from, caught_up, next_entries, stands_after, took_ahead, took_fit, took_follows, took_node}
 use Rattle.nr_node.proofs.node.Node.catch_up.Goals as goal
 
 pub invariant_of-self : goal.invariant_of-self
@@ -94,9 +94,7 @@ answer-requires-clause-stand g c =
     let whole = c.take.new.entries.items in
     let entries = drop self.ahead whole in
     let next = c.apply_all.new.self in
-    let With : List LogEntry → ReplicaState = λ l. record self.replica { entries = self.replica.entries ++ l } in
-    let new = slice_from self.ahead c.as_slice.result.now whole c.as_slice.ensures.value in
-    let applied = c.apply_all.ensures ∙ ap With new in
+    let applied = c.apply_all.ensures ∙ applied_from self.replica self.ahead c.as_slice.result.now whole c.as_slice.ensures.value in
     let all = took_all _ _ self.pass.view c.take.new.pass.view whole self.ahead _ c.in_ok-take.ensures.taken is.0.owner is.2 is.0.written in
     let base = ap (λ (r : ReplicaState). r.base) applied in
     λ place at. (
@@ -112,9 +110,7 @@ invariant_of-self-2 g c =
     let whole = c.take.new.entries.items in
     let entries = drop self.ahead whole in
     let next = c.apply_all.new.self in
-    let With : List LogEntry → ReplicaState = λ l. record self.replica { entries = self.replica.entries ++ l } in
-    let new = slice_from self.ahead c.as_slice.result.now whole c.as_slice.ensures.value in
-    let applied = c.apply_all.ensures ∙ ap With new in
+    let applied = c.apply_all.ensures ∙ applied_from self.replica self.ahead c.as_slice.result.now whole c.as_slice.ensures.value in
     let all = took_all _ _ self.pass.view c.take.new.pass.view whole self.ahead _ c.in_ok-take.ensures.taken is.0.owner is.2 is.0.written in
     let Is : List Waiting → Type 0 = λ l. IsNode g.J.LogName.depth g.J.LogName.replicas (node_state c.take.new.pass next l None) in (
       subst Is (sym c.keep_unplaced.ensures) (took_node _ _ self.pass c.take.new.pass self.replica next self.batch.items self.first entries all is.0
@@ -131,9 +127,7 @@ returns-clause-caught_up g c =
     let whole = c.take.new.entries.items in
     let entries = drop self.ahead whole in
     let next = c.apply_all.new.self in
-    let With : List LogEntry → ReplicaState = λ l. record self.replica { entries = self.replica.entries ++ l } in
-    let new = slice_from self.ahead c.as_slice.result.now whole c.as_slice.ensures.value in
-    let applied = c.apply_all.ensures ∙ ap With new in
+    let applied = c.apply_all.ensures ∙ applied_from self.replica self.ahead c.as_slice.result.now whole c.as_slice.ensures.value in
     let took = c.in_ok-take.ensures.taken in
     let all = took_all _ _ self.pass.view c.take.new.pass.view whole self.ahead _ took is.0.owner is.2 is.0.written in
     let ByLeft : List Waiting → Type 0 = λ l. HasCaughtUp g.J.LogName.depth g.J.LogName.replicas (node_state self.pass self.replica self.batch.items self.first)
@@ -143,7 +137,7 @@ returns-clause-caught_up g c =
     let ByOld : NodeState → Type 0 = λ n. HasCaughtUp g.J.LogName.depth g.J.LogName.replicas n
     (length (take (length c.as_slice.result.now - self.ahead) (drop self.ahead c.as_slice.result.now)))
     (node_state c.take.new.pass next c.keep_unplaced.new.batch.items None) in
-    let count = ap (λ (l : List LogEntry). length l) new in
+    let count = ap (λ (l : List LogEntry). length l) (slice_from self.ahead c.as_slice.result.now whole c.as_slice.ensures.value) in
     subst ByOld c.self.view_is (subst ByCount (sym count) (subst ByLeft (sym c.keep_unplaced.ensures)
     (caught_up _ _ self.pass c.take.new.pass self.replica next self.batch.items self.first whole entries took all is.0 applied)))
 
@@ -154,9 +148,7 @@ returns-clause-answered g c =
     let whole = c.take.new.entries.items in
     let entries = drop self.ahead whole in
     let next = c.apply_all.new.self in
-    let With : List LogEntry → ReplicaState = λ l. record self.replica { entries = self.replica.entries ++ l } in
-    let new = slice_from self.ahead c.as_slice.result.now whole c.as_slice.ensures.value in
-    let applied = c.apply_all.ensures ∙ ap With new in
+    let applied = c.apply_all.ensures ∙ applied_from self.replica self.ahead c.as_slice.result.now whole c.as_slice.ensures.value in
     let later = log_after g.J.LogName.replicas c.take.new.pass.view.seen in
     let all = took_all _ _ self.pass.view c.take.new.pass.view whole self.ahead _ c.in_ok-take.ensures.taken is.0.owner is.2 is.0.written in
     let are = next_entries _ _ self.pass c.take.new.pass self.replica next self.batch.items self.first entries all is.0 is.1 applied in
