@@ -28,8 +28,8 @@ is_of thread events event = option_map_or (λ other. other == thread) (thread_of
 abbrev pub events_of : ℕ → List Event → List Event
 events_of thread events = filter (is_of thread events) events
 
--- the events are what these pens were given, and nothing else: the stamps of all pens are the indices of the events, each once; those of each
--- pen rise, and the event of each is what the pen was given with it; and the events of each thread are what its pen was given, in that order
+-- the events are what these pens were given, and nothing else. The stamps of all pens are the indices of the events, each once. Those of each
+-- pen rise, and the event of each is what the pen was given with it. The events of each thread are what its pen was given, in that order
 pub record AreEventsOf (events : List Event) (pens : List PenState) : Type 0 where
   pub stamps : AreBelow (length events) (flat_map stamps_of pens)
   pub rising : All (λ pen. Rise (stamps_of pen)) pens

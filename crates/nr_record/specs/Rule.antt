@@ -1,5 +1,5 @@
--- The word that stamps are drawn from: what holds of it and of the views of all seats, whatever the threads do; and its five kinds of
--- step, which are making it with its first seat, splitting a seat, drawing, joining two seats, and closing.
+-- The word that stamps are drawn from: what holds of it and of the views of all seats, whatever the threads do. It has five kinds of
+-- step: making it with its first seat, splitting a seat, drawing, joining two seats, and closing.
 use Rattle.std.specs.Prelude.{◌≡◌, ℕ, ◌+◌, ◌-◌, ◌*◌, ◌<◌, ◌≤◌, List, [], ◌∷◌, ◌++◌, All, length, slice_index}
 use Rattle.std.specs.List.{sum_by}
 use Rattle.vs_types.specs.declared.addresses.depth.Depth.TheVariants.{Four}

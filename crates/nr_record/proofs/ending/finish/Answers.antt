@@ -8,17 +8,11 @@ use Rattle.nr_trace.specs.declared.formats.version.Version.TheVariants.{V1, V2}
 use Rattle.nr_record.specs.Events.{AreEventsOf}
 use Rattle.nr_record.proofs.ending.finish.Goals as goal
 
-pub of_run-requires : goal.of_run-requires
-of_run-requires c =
-    let recorded = c.in_ok-events.ensures in
-    record {
-      log = c.requires.log;
-      events = (
-        recorded.count,
-        subst (λ (layout : Layout). All (IsEvent V2 layout) c.in_ok-events.events.items) (sym c.requires.config) recorded.fit,
-      );
-      dumps = c.requires.dumps;
-    }
+pub of_run-requires-clause-events : goal.of_run-requires-clause-events
+of_run-requires-clause-events c = (
+  c.in_ok-events.ensures.count,
+  subst (λ (layout : Layout). All (IsEvent V2 layout) c.in_ok-events.events.items) (sym c.requires.config) c.in_ok-events.ensures.fit,
+)
 
 pub returns : goal.returns
 returns c =

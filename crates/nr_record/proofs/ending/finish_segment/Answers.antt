@@ -6,17 +6,11 @@ use Rattle.nr_trace.specs.declared.formats.version.Version.TheVariants.{V2}
 use Rattle.nr_record.specs.Events.{AreEventsOf}
 use Rattle.nr_record.proofs.ending.finish_segment.Goals as goal
 
-pub segment_of-requires : goal.segment_of-requires
-segment_of-requires c =
-    let recorded = c.in_ok-events.ensures in
-    record {
-      log = c.requires.log;
-      events = (
-        recorded.count,
-        subst (λ (layout : Layout). All (IsEvent V2 layout) c.in_ok-events.events.items) (sym c.requires.config) recorded.fit,
-      );
-      dumps = c.requires.dumps;
-    }
+pub segment_of-requires-clause-events : goal.segment_of-requires-clause-events
+segment_of-requires-clause-events c = (
+  c.in_ok-events.ensures.count,
+  subst (λ (layout : Layout). All (IsEvent V2 layout) c.in_ok-events.events.items) (sym c.requires.config) c.in_ok-events.ensures.fit,
+)
 
 pub returns : goal.returns
 returns c =
