@@ -1,10 +1,10 @@
 -- What lines more make of what is gathered, and of the state of a script that comes in pieces.
-use Rattle.std.proofs.Common.{◌≡◌, ℕ, ◌+◌, ◌<◌, ◌≤◌, ◌++◌, ◌==◌, ◌≢◌, Bool, true, false, cond, List, [], ◌∷◌, length, map, filter, refl, sym, ap, subst, ◌∙◌}
+use Rattle.std.proofs.Common.{◌≡◌, ℕ, ◌+◌, ◌-◌, ◌<◌, ◌≤◌, ◌++◌, ◌==◌, ◌≢◌, Bool, true, false, cond, List, [], ◌∷◌, length, map, filter, refl, sym, ap, subst, ◌∙◌}
 use Rattle.std.proofs.Common.{Option, Some, None, arith, append-nil, append_assoc, get_or, set, take, drop, inl, inr, length-append}
 use Rattle.std.proofs.Math.Seq.{map-set_same, take-add}
 use Rattle.std.proofs.lemmas.Bool.Decides.{nat_tests}
 use Rattle.std.proofs.lemmas.Grind.{flat_map-append, get_or-set_at}
-use Rattle.std.proofs.lemmas.List.{get_or-set_other, length-set, map-append, take-append-drop, take_all}
+use Rattle.std.proofs.lemmas.List.{get_or-set_other, length-set, map-append, take-append-drop, take_all, take_rest}
 use Rattle.std.proofs.lemmas.List.Elements.{filter-append}
 use Rattle.std.proofs.lemmas.List.Sums.{sum_by-set}
 use Rattle.std.proofs.lemmas.Slice.Zip.{all_zipped_more}
@@ -17,7 +17,7 @@ use Rattle.vs_types.specs.Refusal.{IfRefused}
 use Rattle.vs_types.specs.declared.requests.refusal.Fail.{Fail}
 use Rattle.vs_types.specs.declared.requests.refusal.Fail.TheVariants.{Memory, Refused}
 use Rattle.nr_core.specs.declared.runs.step.Step.{Step}
-use Rattle.nr_script.specs.Fed.{EndsIn, EndsLine, GoesOn}
+use Rattle.nr_script.specs.Fed.{EndsIn, EndsLine, FeedsLine, GoesOn}
 use Rattle.nr_script.specs.Lines.{Says}
 use Rattle.nr_script.specs.Portion.{AsksMore, EndsPortion, HasBadNext, IsNoRequest, PortionState, TakesLines, number_behind, request_count}
 use Rattle.nr_script.specs.Script.{asked, request_in, requests_by, step_in}
@@ -25,6 +25,8 @@ use Rattle.nr_script.specs.declared.gathering.Gathering.{Gathering}
 use Rattle.nr_script.specs.declared.line.Line.{Line}
 use Rattle.nr_script.specs.declared.script.BadLine.{BadLine}
 use Rattle.nr_script.specs.declared.line.Line.TheVariants as says
+use Rattle.nr_script.specs.declared.line_feed.Fed.{Fed}
+use Rattle.nr_script.specs.declared.line_feed.Fed.TheVariants.{Ended}
 use Rattle.nr_script.specs.inside.Gathering.{IsCounted, IsFedTo, IsNothingOrStep, IsOfThreads, TakesLine, lists_in, state_of}
 use Rattle.nr_script.specs.inside.Reading.{with_request}
 use Rattle.nr_script.proofs.Gathered.{steps_more}
@@ -242,6 +244,13 @@ fed_whole depth initial begun new piece first gathering most taken fed goes =
     subst (λ (bytes : List ℕ). TakesLines (state_of depth initial first) bytes (state_of depth new gathering))
     (take-append-drop taken piece ∙ sym (take_all (length piece) piece (omega arith)))
     (takes_more (state_of depth initial first) (state_of depth begun gathering) (take taken piece) (drop taken piece) new fed.takes goes)
+
+-- what is left of a piece has ended the line
+pub ended_line : (depth : Depth) (begun new piece : List ℕ) (taken count : ℕ) (said : Option Line) (fed : Fed) → fed ≡ Ended count said
+    → FeedsLine depth begun (take (length piece - taken) (drop taken piece)) new fed → EndsLine depth begun (drop taken piece) new count said
+ended_line depth begun new piece taken count said fed is feeds =
+    subst (λ (rest : List ℕ). EndsLine depth begun rest new count said) (take_rest piece taken)
+    (subst (λ (fed : Fed). FeedsLine depth begun (take (length piece - taken) (drop taken piece)) new fed) is feeds)
 
 -- or it has a line more
 pub fed_line : (depth : Depth) (initial begun new piece : List ℕ) (first old gathering : Gathering) (most taken count : ℕ) (said : Option Line)

@@ -1,10 +1,10 @@
 use Rattle.std.proofs.Common.{ℕ, ◌-◌, List, drop, length, refl, subst, take, arith}
 use Rattle.std.proofs.lemmas.List.{length-drop, take_rest}
 use Rattle.std.proofs.lemmas.Result.{err_from_is_err_and}
-use Rattle.nr_script.specs.Fed.{EndsLine, FeedsLine, GoesOn}
+use Rattle.nr_script.specs.Fed.{FeedsLine, GoesOn}
 use Rattle.nr_script.specs.declared.line_feed.Fed.{Fed}
 use Rattle.nr_script.specs.inside.Gathering.{state_of}
-use Rattle.nr_script.proofs.Portions.{fed_line, fed_refused, fed_whole, takes_none}
+use Rattle.nr_script.proofs.Portions.{ended_line, fed_line, fed_refused, fed_whole, takes_none}
 use Rattle.nr_script.proofs.gathering.Gathering.feed.Goals as goal
 
 pub loop-taken-init : goal.loop-taken-init
@@ -33,9 +33,7 @@ returns-in_err-take-in-Ended-clause-bad c =
     let said = c.in-Ended.said in
     let begun = c.loop-taken.lines in
     let new = c.feed.new.self in
-    let rest = take (length piece - taken) (drop taken piece) in
-    let fed = subst (λ (fed : Fed). FeedsLine c.args.depth begun rest new fed) c.in-Ended.is c.in_ok-feed.ensures.fed in
-    let ends = subst (λ (rest : List ℕ). EndsLine c.args.depth begun rest new count said) (take_rest piece taken) fed in
+    let ends = ended_line c.args.depth begun new piece taken count said _ c.in-Ended.is c.in_ok-feed.ensures.fed in
     let bad = fed_refused c.args.depth c.args.lines.now begun new piece c.args.self.now c.loop-taken.self c.args.most taken count said
     c.in_err-take-in-Ended.field-0.0 c.loop-taken.invariant c.if-self-most.false ends c.in_err-take-in-Ended.ensures.bad in
     let p = err_from_is_err_and c.from_residual-in_err-take-in-Ended.result c.from_residual-in_err-take-in-Ended.ensures.1 in
@@ -49,9 +47,7 @@ loop-taken-preserved c =
     let said = c.in-Ended.said in
     let begun = c.loop-taken.lines in
     let new = c.feed.new.self in
-    let rest = take (length piece - taken) (drop taken piece) in
-    let fed = subst (λ (fed : Fed). FeedsLine c.args.depth begun rest new fed) c.in-Ended.is c.in_ok-feed.ensures.fed in
-    let ends = subst (λ (rest : List ℕ). EndsLine c.args.depth begun rest new count said) (take_rest piece taken) fed in
+    let ends = ended_line c.args.depth begun new piece taken count said _ c.in-Ended.is c.in_ok-feed.ensures.fed in
     let within = ends.within in
     let some = ends.some in
     let long = length-drop taken piece in
