@@ -12,16 +12,16 @@ use Rattle.nr_ring.specs.View.{StartsWith}
 use Rattle.nr_ring.specs.declared.ring.log_event.LogEvent.{LogEvent}
 use Rattle.nr_node.specs.Spaces.{space_at}
 
--- a dump of a replica, whose entries are counted from this place on: a page table that translates as the space after all entries that it
--- has applied, with as many frames as that space has tables, at most 4,096
+-- a dump of a replica, whose entries are counted from this place on. It is a page table that translates as the space after all entries that the
+-- replica has applied. It has as many frames as that space has tables, at most 4,096
 pub record IsDumpOf (depth : Depth) (tables base : ℕ) (log : Log) (dump : Image) : Type 0 where
   pub applied : base + dump.applied ≤ tail log
   pub translates : TranslatesAs depth dump.frames dump.root (space_at depth tables log.entries (base + dump.applied))
   pub frames : finite.len dump.frames ≡ table_count depth (space_at depth tables log.entries (base + dump.applied))
   pub few : finite.len dump.frames ≤ TABLES
 
--- the calls of one log from this place on, which begins with all that each of these passes has seen and fits so many places, and a dump of
--- each replica, by number, after just the entries that it has taken
+-- the calls of one log from this place on, and a dump of each replica, by number, after just the entries that it has taken. The log begins with
+-- all that each of these passes has seen, and fits so many places
 pub record IsSettled (depth : Depth) (replicas places tables base : ℕ) (passes : List Known) (calls : List ℕ) (dumps : List Image) : Type 0 where
   pub history : List LogEvent
   pub is_history : IsLogHistory depth replicas history

@@ -37,8 +37,8 @@ pub struct Cut<J: LogName> {
 }
 
 impl<J: LogName, K: ReplicasName> Replicas<J, K> {
-    /// Cuts the log at its end, where no call is open: the call numbers of the entries since the last cut, a dump of each replica after all
-    /// entries, and the replicas, which keep none of these entries any more. Each of these passes has then seen the whole log.
+    /// Cuts the log at its end, where no call is open. Gives the call numbers of the entries since the last cut, a dump of each replica after
+    /// all entries, and the replicas, which keep none of these entries any more. Each of these passes has then seen the whole log.
     ///
     /// New slots come with the next name, so that no answer of before is given after the cut, and call numbers may begin at 0 again.
     /// It waits for nobody. It allocates memory for the nodes, the calls and the dumps.

@@ -316,7 +316,8 @@ impl<J: LogName, K: ReplicasName> Replicas<J, K> {
             IsReadAt J.depth K.tables (completed (log_after J.replicas pass.old.view.seen))
             (log_after J.replicas pass.new.view.seen) (λ space. look space address) read.0 read.1) }
     {
-        self.ask(rt, pass, thread, address, Question::Resolve, turns)
+        let home = self.home(thread);
+        self.ask(rt, pass, home, address, Question::Resolve, turns)
     }
 
     /// Whether an access of a canonical address is allowed: how many entries of the log the thread's replica had applied, and
@@ -348,28 +349,22 @@ impl<J: LogName, K: ReplicasName> Replicas<J, K> {
             (log_after J.replicas pass.new.view.seen)
             (λ space. allow space address mode access) read.0 read.1) }
     {
-        self.ask(
-            rt,
-            pass,
-            thread,
-            address,
-            Question::Access(mode, access),
-            turns,
-        )
+        let home = self.home(thread);
+        let question = Question::Access(mode, access);
+        self.ask(rt, pass, home, address, question, turns)
     }
 
-    /// Asks a question about an address, once the thread's replica has applied all that was completed.
+    /// Asks a question about an address, once this replica has applied all that was completed.
     fn ask<R: Wait>(
         &self,
         rt: &R,
         pass: &mut LogPass<J>,
-        thread: u16,
+        home: &Shared<J, K>,
         address: u64,
         question: Question,
         turns: u32,
     ) -> Result<(u64, Answer), Stopped>
         requires log { pass.old.log ≡ K.log }
-        requires thread { thread < self.now.threads }
         requires canonical { IsCanonical J.depth address }
         ensures log { pass.new.log ≡ pass.old.log }
         ensures heard { HasHeard J.depth J.replicas pass.old.view pass.new.view }
@@ -378,7 +373,6 @@ impl<J: LogName, K: ReplicasName> Replicas<J, K> {
             (log_after J.replicas pass.new.view.seen) (answer_in question address) read.0 read.1) }
     {
         let completed = self.log.look(pass).completed;
-        let home = self.home(thread);
         let mut patience = Patience::new();
         for _ in 0..turns {
             if let Some(mut local) = patience.attempt(rt, &home.local) {

@@ -22,8 +22,8 @@ use vs_walk::Dump;
 
 impl<J: LogName, K: ReplicasName> Replicas<J, K> {
     /// What is left when all is done: the call numbers of the entries of a log since the last cut, by place, and a dump of each replica, by
-    /// number, after just the entries that it has applied, of which it counts those since then. That log begins with all that each of
-    /// these passes has seen; they are left as they were.
+    /// number. A dump is that after just the entries that its replica has applied, and counts those since the cut. That log begins with all that
+    /// each of these passes has seen; they are left as they were.
     ///
     /// It allocates memory for the nodes, passes, calls and dumps.
     ///

@@ -1,4 +1,4 @@
-use Rattle.std.proofs.Common.{◌≡◌, ℕ, ◌+◌, ◌<◌, ◌++◌, List, All, length, map, take, drop, get_or, refl, ap, sym, subst, ◌∙◌, arith}
+use Rattle.std.proofs.Common.{◌≡◌, ℕ, ◌+◌, ◌<◌, ◌++◌, List, All, length, map, take, drop, get_or, refl, ap, sym, subst, ◌∙◌, arith, rules}
 use Rattle.std.specs.Arc.{arc_value}
 use Rattle.std.proofs.lemmas.List.{length-map}
 use Rattle.vs_walk.specs.Dump.{Image}
@@ -50,42 +50,8 @@ invariant_of-replicas g c =
     c.self.invariant.1 many c.in-Some.ensures.nodes done in
     (subst Nodes (sym (over_again ∙ same)) (subst OfLog (sym c.self.invariant.0) are), c.self.invariant.2)
 
-pub returns-clause-heard : goal.returns-clause-heard
-returns-clause-heard g c =
-    let depth = g.J.LogName.depth in
-    let replicas = g.J.LogName.replicas in
-    let met = c.in-Some.ensures.met in
-    zip_on (WasTold depth replicas met.history) (λ (x y : Known). HasHeard depth replicas x.view y.view) c.args.passes.now c.meet.new.passes
-    (λ x y told. told.0) met.told
-
-pub returns-clause-cut : goal.returns-clause-cut
-returns-clause-cut g c =
-    let depth = g.J.LogName.depth in
-    let replicas = g.J.LogName.replicas in
-    let tables = g.K.ReplicasName.tables in
-    let base = g.K.ReplicasName.base in
-    let shared = c.self.inside.shared.items in
-    let vec = c.in_ok-nodes.nodes in
-    let met = c.meet.new.nodes in
-    let node = c.index.result.now in
-    let dumps = c.in_ok-dumps.dumps.items in
-    let count : length met ≡ length vec.items = c.in-Some.ensures.count ∙ ap (λ (l : List NodeState). length l) c.deref_mut.ensures.value in
-    let over : take vec.len (met ++ drop (length met) vec.items) ≡ met = written_over vec.len met vec.items count vec.ok.0 in
-    let Done : NodeState → Type 0 = IsDone replicas c.in-Some.base in
-    let done : All Done met = subst (All Done) (c.deref-2.ensures.value ∙ over) (c.if-not-are_done.ensures refl) in
-    let Slots : _ → ℕ = λ s. arc_value s.slots in
-    let many : length met ≡ length (map Slots shared) = count ∙ c.in_ok-nodes.ensures.count ∙ sym (length-map shared Slots) in
-    let are = c.self.invariant.1 in
-    let Here : List NodeState → Type 0 = λ l. node ≡ get_or l 0 node in
-    let Dumps : List NodeState → Type 0 = λ l. AreDumpsOf depth replicas tables base (map known_of l) dumps in
-    let all = c.deref-3.ensures.value ∙ over in
-    (cut_is depth replicas g.J.LogName.places tables base c.in-Some.base g.K.ReplicasName.log node met c.args.passes.now c.meet.new.passes
-    c.in_ok-calls.calls.items dumps c.in-Some.ensures.met c.in-Some.ensures.nodes done (omega (arith, many, are.count, are.some))
-    (many ∙ are.count ∙ are.replicas_are) (subst Here over c.index.ensures) c.in_ok-calls.ensures.is_node c.in_ok-calls.ensures.calls
-    (subst Dumps all c.in_ok-dumps.ensures.dumps) (c.in_ok-dumps.ensures.count ∙ ap (λ (l : List NodeState). length l) all)).0
-
-pub returns-clause-opened : goal.returns-clause-opened
-returns-clause-opened g c =
+pub returns : goal.returns
+returns g c =
     let depth = g.J.LogName.depth in
     let replicas = g.J.LogName.replicas in
     let tables = g.K.ReplicasName.tables in
@@ -109,4 +75,10 @@ returns-clause-opened g c =
     c.in_ok-calls.calls.items dumps c.in-Some.ensures.met c.in-Some.ensures.nodes done (omega (arith, many, are.count, are.some))
     (many ∙ are.count ∙ are.replicas_are) (subst Here over c.index.ensures) c.in_ok-calls.ensures.is_node c.in_ok-calls.ensures.calls
     (subst Dumps all c.in_ok-dumps.ensures.dumps) (c.in_ok-dumps.ensures.count ∙ ap (λ (l : List NodeState). length l) all) in
-    (c.self.invariant.0, c.self.view_is, cut.1)
+    record {
+      opened = (c.self.invariant.0, c.self.view_is, cut.1);
+      cut = cut.0;
+      log = search rules;
+      heard = zip_on (WasTold depth replicas c.in-Some.ensures.met.history) (λ (x y : Known). HasHeard depth replicas x.view y.view)
+          c.args.passes.now c.meet.new.passes (λ x y told. told.0) c.in-Some.ensures.met.told;
+    }
