@@ -78,8 +78,8 @@ AreAllCallsOf trace scripts answers = (thread : ℕ) (script : List Query) (item
 abbrev pub HaveSeenAnswers : Recording → List Known → Type 0
 HaveSeenAnswers trace passes = (thread : ℕ) (pass : Known) → slice_get passes thread ≡ Some pass → HasSeenAnswers trace thread pass
 
--- the bytes spell one trace, of this layout, in which the threads' calls are those of their scripts, and the answers what came of them;
--- its log is one log, of which each thread's pass has seen all on which the thread's answers depend
+-- the bytes spell one trace, of this layout. The threads' calls in it are those of their scripts, and the answers what came of them.
+-- Its log is one log, of which each thread's pass has seen all on which the thread's answers depend
 pub record IsTraceOf (layout : Layout) (scripts : List (List Query)) (answers : List (List CallOutcome)) (passes : List Known) (bytes : List ℕ) : Type 0 where
   pub layout_is : IsSpelledWith bytes (λ trace. trace.layout ≡ layout)
   pub answers_each : length answers ≡ layout.threads

@@ -7,7 +7,7 @@ use Rattle.nr_ring.specs.Pass.{Known, TableId, new_pass}
 use Rattle.nr_ring.specs.View.{StartsWith}
 use Rattle.nr_ring.specs.declared.ring.log_event.LogEvent.{LogEvent}
 
--- how the run is laid out, and what the chain of its segments has come to, if there are some; its log, how many entries that had at the
+-- how the run is laid out, and what the chain of its segments has come to, if there are some. Its log, how many entries that had at the
 -- last cut, and what the threads' passes have seen of it
 pub record RunState : Type 0 where
   pub layout : Layout

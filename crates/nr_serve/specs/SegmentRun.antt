@@ -31,8 +31,8 @@ layout_so_far kept = option_map (λ last. last.layout) kept
 abbrev pub HasSeenMore : Known → Known → Type 0
 HasSeenMore before after = StartsWith after.view.seen before.view.seen
 
--- a thread's pass has seen all on which the thread's answers in a segment depend, whose places are counted from this one on: of each
--- answered update its place, where that call is with its operation; and as many entries as each answered read saw
+-- a thread's pass has seen all on which the thread's answers in a segment depend. Of each answered update this is its place, where that call is
+-- with its operation; of each answered read, as many entries as it saw. The segment's places are counted from this one on
 pub record HasSeenAnswersFrom (base : ℕ) (trace : Recording) (thread : ℕ) (pass : Known) : Type 0 where
   pub updates : (call : ℕ) (made : Invocation) (action : Action) (reply : Response) → call_of trace call ≡ Some made → made.thread ≡ thread
       → operation_of trace call ≡ Some action → reply_to trace call ≡ Some reply

@@ -40,8 +40,8 @@ pub fn runs_are_right_chains()
         → IsRightChain (bytes ++ segment.bytes) (orders_of (segments ++ segment ∷ [])) }
 {}
 
-/// The logs of a run's segments, one after the other, are one log, which the passes of its threads have seen; and so they are with a last
-/// segment, up to the end of a history that begins with all that each of the passes has seen.
+/// The logs of a run's segments, one after the other, are one log, which the passes of its threads have seen. With a last segment they are one
+/// log too, up to the end of a history that begins with all that each of the passes has seen.
 pub fn runs_have_one_log()
     ensures all { (layout : Layout) (log : TableId) (bytes : List ℕ) (segments : List Ran)
         (end : RunState) → 1 ≤ layout.threads

@@ -17,8 +17,8 @@ use Rattle.nr_serve.specs.inside.Segment.{HaveServed, IsRunOf, state_with}
 abbrev pub opened_with : Since → Layout → OpenState
 opened_with of layout = record { log = of.log; layout = layout; base = of.from }
 
--- a segment may be ended, whose threads have handed back these pens and passes: it is a segment of a run with these passes; it is laid out
--- as its clock; and the pens are all pens of that
+-- a segment may be ended, whose threads have handed back these pens and passes. It is a segment of a run with these passes. It is laid out
+-- as its clock, and the pens are all of that clock's
 pub record MayEnd (depth : Depth) (replicas : ℕ) (clock : ClockId) (of : Since) (replicated layout : Layout) (past : Option Past) (pens : List PenState)
     (passes : List Known) : Type 0 where
   pub run : IsRunOf depth replicas (opened_with of replicated) passes layout past
