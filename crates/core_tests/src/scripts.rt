@@ -21,7 +21,7 @@ fn assert_fits(rt: &impl Abort, depth: Depth, script: &[Request])
 }
 
 /// Asserts that there is one script for each thread, with requests that are few enough and well formed.
-fn assert_scripts(rt: &impl Abort, config: Config, scripts: &[Vec<Request>])
+pub fn assert_scripts(rt: &impl Abort, config: Config, scripts: &[Vec<Request>])
     ensures { AreScripts config (map (λ script. script.items) scripts.now) }
 {
     assert!(rt; scripts.len() == usize::from(config.threads()));

@@ -1,7 +1,7 @@
 //! Refused growths of memory: a run of four lines, and one in two segments, each of whose growths `tests/programs` refuses in turn. If
 //! the growth that is refused is that of starting a thread, there is no thread.
 use crate::serve::scene::{TURNS, verified};
-use crate::serve::scripts::{map_a, resolve_a, unmap_a};
+use crate::serve::scripts::{ANSWERS_OF_FOUR, map_a, resolve_a, unmap_a};
 use crate::serve::segments::segments_of;
 use nr_serve::{AlwaysGo, CallOutcome};
 use std::test::Fail;
@@ -12,16 +12,7 @@ fn whole_run(rt: HostRuntime) -> Result<(), Fail> {
     let alloc = rt.alloc();
     let script = vec![in alloc; map_a(&rt), resolve_a(&rt), unmap_a(&rt), resolve_a(&rt)]?;
     let shown = verified(&rt, alloc, 1, vec![in alloc; script]?, TURNS, &AlwaysGo)?;
-    shown.assert_said(
-        &rt,
-        0,
-        &[
-            CallOutcome::Answer(0, Answer::Done),
-            CallOutcome::Answer(1, Answer::Mapped(0x1123, Size::K4, Rights::ALL)),
-            CallOutcome::Answer(1, Answer::Removed(0x1000, Size::K4, Rights::ALL)),
-            CallOutcome::Answer(2, Answer::NotMapped),
-        ],
-    );
+    shown.assert_said(&rt, 0, &ANSWERS_OF_FOUR);
     Ok(())
 }
 

@@ -1,7 +1,7 @@
 //! Runs that no gate stops.
 use crate::serve::gates::{HoldUntil, InTurn};
 use crate::serve::scene::{TURNS, shown_by, verified_of};
-use crate::serve::scripts::{access_high, map_a, map_high, resolve_a, unmap_a};
+use crate::serve::scripts::{ANSWERS_OF_FOUR, access_high, map_a, map_high, resolve_a, unmap_a};
 use nr_replicas::Point;
 use nr_serve::{AlwaysGo, CallOutcome};
 use nr_trace::{Event, Version};
@@ -12,16 +12,7 @@ fn run_of_four_lines(rt: HostRuntime) {
     let alloc = rt.alloc();
     let script = [map_a(&rt), resolve_a(&rt), unmap_a(&rt), resolve_a(&rt)];
     let shown = shown_by(&rt, alloc, 1, &[&script], &AlwaysGo);
-    shown.assert_said(
-        &rt,
-        0,
-        &[
-            CallOutcome::Answer(0, Answer::Done),
-            CallOutcome::Answer(1, Answer::Mapped(0x1123, Size::K4, Rights::ALL)),
-            CallOutcome::Answer(1, Answer::Removed(0x1000, Size::K4, Rights::ALL)),
-            CallOutcome::Answer(2, Answer::NotMapped),
-        ],
-    );
+    shown.assert_said(&rt, 0, &ANSWERS_OF_FOUR);
     assert_eq!(rt; shown.order.calls(), [0u32, 2, 4, 6].as_slice());
 }
 

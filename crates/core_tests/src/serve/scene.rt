@@ -3,7 +3,7 @@ ghost use Rattle.std.specs.Prelude.{◌≡◌, ◌+◌, map};
 ghost use Rattle.vs_types.specs.Query.{AreScripts};
 ghost use Rattle.vs_types.specs.declared.limits.TheConstants.{LOG_PLACES};
 
-use crate::serve::scripts::assert_scripts;
+use crate::scripts::assert_scripts;
 use nr_audit::Order;
 use nr_replicas::Gate;
 use nr_ring::LogName;

@@ -1,33 +1,8 @@
 //! Scripts.
-ghost use Rattle.std.specs.Prelude.{All, map};
-ghost use Rattle.vs_types.specs.Query.{IsQuery};
-ghost use Rattle.vs_types.specs.Query.{AreScripts};
-
+use nr_serve::CallOutcome;
 use std::alloc::Global;
 use std::process::Abort;
-use vs_types::{Access, Config, Depth, Mode, Op, Request, Rights, Size};
-
-/// Asserts that each request of a script is well formed at the depth.
-fn assert_fits(rt: &impl Abort, depth: Depth, script: &[Request])
-    ensures { All (IsQuery depth) script.now }
-{
-    for request in script {
-        assert!(rt; request.fits(depth));
-    }
-}
-
-/// Asserts that there is one script for each thread, with requests that are few enough and well formed.
-pub fn assert_scripts(rt: &impl Abort, config: Config, scripts: &[Vec<Request>])
-    ensures { AreScripts config (map (λ script. script.items) scripts.now) }
-{
-    assert!(rt; scripts.len() == usize::from(config.threads()));
-    let mut left: usize = 65_536;
-    for script in scripts {
-        assert!(rt; script.len() <= left);
-        left -= script.len();
-        assert_fits(rt, config.depth(), script);
-    }
-}
+use vs_types::{Access, Answer, Depth, Mode, Op, Request, Rights, Size};
 
 /// A page of 4 KiB at 0x400000 is mapped to 0x1000, with all rights.
 pub fn map_a(rt: &impl Abort) -> Request {
@@ -44,6 +19,14 @@ pub fn resolve_a(rt: &impl Abort) -> Request {
 pub fn unmap_a(rt: &impl Abort) -> Request {
     Request::update(Op::unmap(Depth::Four, 0x400000).expect(rt, "an unmap"))
 }
+
+/// What a thread is answered that maps that page, asks for the address, unmaps the page and asks again.
+pub const ANSWERS_OF_FOUR: [CallOutcome; 4] = [
+    CallOutcome::Answer(0, Answer::Done),
+    CallOutcome::Answer(1, Answer::Mapped(0x1123, Size::K4, Rights::ALL)),
+    CallOutcome::Answer(1, Answer::Removed(0x1000, Size::K4, Rights::ALL)),
+    CallOutcome::Answer(2, Answer::NotMapped),
+];
 
 /// 64 requests. Half are updates: that page and the page of 2 MiB that begins with it are mapped, the rights of what is there are
 /// changed, and it is unmapped.

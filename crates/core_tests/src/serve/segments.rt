@@ -2,9 +2,10 @@
 ghost use Rattle.std.specs.Prelude.{◌≡◌, ◌+◌, IfOk, IfSome};
 ghost use Rattle.nr_ring.specs.declared.cells.words.TheConstants.{MOST_PLACES};
 
+use crate::scripts::assert_scripts;
 use crate::serve::gates::StopAt;
 use crate::serve::scene::TURNS;
-use crate::serve::scripts::{assert_scripts, map_a, overlapping, resolve_a, unmap_a};
+use crate::serve::scripts::{map_a, overlapping, resolve_a, unmap_a};
 use nr_chain::{ChainVerdict, audit_chain};
 use nr_replicas::{Gate, Point};
 use nr_ring::LogName;
