@@ -26,6 +26,7 @@ use Rattle.nr_trace.proofs.Parts.{call_left, request_left, reply_left, answers_l
 use Rattle.nr_trace.proofs.Parts.{is_update_left, is_update_from_left}
 use Rattle.nr_trace.proofs.Places.{is_read_from_left, placed_left, placed_in, placed_before, PlacedRight, stands_left, known_left, floor_above, knows_more}
 use Rattle.nr_chain.proofs.Recorded.{recorded_both}
+use Rattle.chain_cuts.proofs.SameRuns.{same_open}
 
 -- a call that comes after some entries is one of the run
 pub stands_within : (trace : Recording) (call entries : ℕ) → StandsAfter trace call entries → call < length trace.events
@@ -163,16 +164,7 @@ module _ (start : Space) (first second : Recording) (closed : IsCutAt first seco
   none_there replica dump is = none-some dump is
 
   pub front_faultless : IsFaultlessFrom start (without_dumps first)
-  front_faultless (ThreadOpen index) h = opens_once index (record {
-    made = h.made;
-    is_made = h.is_made;
-    earlier = h.earlier;
-    earlier_made = h.earlier_made;
-    is_earlier = h.is_earlier;
-    is_earlier_made = h.is_earlier_made;
-    same_thread = h.same_thread;
-    not_answered = h.not_answered;
-  })
+  front_faultless (ThreadOpen index) h = opens_once index (same_open first [] first.dumps index h)
   front_faultless (NoSuchCall index) h = clean_front.no_such_call index h
   front_faultless (AnsweredTwice index) h = clean_front.none_twice index h
   front_faultless (NotAnUpdate place) h = clean_front.updates_alone place h

@@ -1,5 +1,5 @@
 -- Where the two runs of a joined run have no fault, it has none.
-use Rattle.std.proofs.Common.{◌≡◌, ◌≢◌, ℕ, ◌+◌, ◌<◌, ◌≤◌, ◌⊎◌, inl, inr, List, length, take, slice_get, Option, None, Some, is_some, refl, ap, sym, ◌∙◌, subst}
+use Rattle.std.proofs.Common.{◌≡◌, ◌≢◌, ℕ, ◌+◌, ◌<◌, ◌≤◌, ◌⊎◌, inl, inr, List, [], length, take, slice_get, Option, None, Some, is_some, refl, ap, sym, ◌∙◌, subst}
 use Rattle.std.proofs.Common.{arith}
 use Rattle.std.specs.Prelude.{◌↔◌}
 use Rattle.std.proofs.lemmas.Option.{slice_get-map, slice_get_within}
@@ -36,21 +36,13 @@ use Rattle.nr_trace.proofs.Places.{is_read_left, placed_left, placed_right, plac
 use Rattle.nr_trace.proofs.Places.{KnowsMore, floor_above, knows_more}
 use Rattle.nr_chain.proofs.Recorded.{recorded_both, places_of_both}
 use Rattle.chain_cuts.proofs.CutFront.{before_within, front_faultless, clean_front}
+use Rattle.chain_cuts.proofs.SameRuns.{same_open}
 use Rattle.chain_cuts.proofs.CutRest.{space_before_right, space_of_prefix, rest_faultless}
 
 -- the faults of a run without dumps are its own
 clean_without_dumps : (start : Space) (trace : Recording) → IsFaultlessFrom start (without_dumps trace) → HasCleanLog trace
 clean_without_dumps start trace faultless = record {
-  no_thread_open = λ index h. faultless (ThreadOpen index) (record {
-    made = h.made;
-    is_made = h.is_made;
-    earlier = h.earlier;
-    earlier_made = h.earlier_made;
-    is_earlier = h.is_earlier;
-    is_earlier_made = h.is_earlier_made;
-    same_thread = h.same_thread;
-    not_answered = h.not_answered;
-  });
+  no_thread_open = λ index h. faultless (ThreadOpen index) (same_open trace trace.dumps [] index h);
   no_such_call = λ index h. faultless (NoSuchCall index) h;
   none_twice = λ index h. faultless (AnsweredTwice index) h;
   updates_alone = λ place h. faultless (NotAnUpdate place) h;

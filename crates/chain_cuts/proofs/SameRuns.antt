@@ -52,7 +52,7 @@ module _ (trace : Recording) (some others : List Image) where
   abbrev with_others : Recording
   with_others = record trace { dumps = others }
 
-  same_open : (index : ℕ) → OpensTwice with_some index → OpensTwice with_others index
+  pub same_open : (index : ℕ) → OpensTwice with_some index → OpensTwice with_others index
   same_open index opens = record {
     made = opens.made;
     is_made = opens.is_made;

@@ -21,9 +21,9 @@ ghost use Rattle.chain_cuts.specs.Cut.{orders_of, without_dumps, AreCut, AreReco
 ghost use Rattle.chain_cuts.specs.Cut.{IsCutAt, IsSameRun, MayCome};
 ghost use Rattle.chain_cuts.specs.Moments.{HadCaughtUp, IsOfSecond, Moments, ShowBehind, touch_in_both, until_cut};
 
-/// A run that is cut in two, where a thread with a call open at the cut makes none behind it, has no fault but perhaps of touches and releases
-/// exactly where the two have none, the second from the space after the first. Dumps are of the second alone, and each has applied the whole
-/// log of the first: of a run with a dump of fewer entries nothing is said.
+/// Let a run be cut in two, where a thread with a call open at the cut makes none behind it. The run has no fault exactly where the two have
+/// none, the second from the space after the first, but perhaps of touches and releases. Dumps are of the second alone, and each has applied the
+/// whole log of the first: of a run with a dump of fewer entries nothing is said.
 pub fn a_cut_makes_no_difference()
     ensures { (start : Space) (first second : Recording) → second.layout ≡ first.layout
         → IsCutAt first second → IsFaultlessFrom start (joined_traces first second)
@@ -45,11 +45,11 @@ pub fn cuts_make_no_difference()
         → AreFaultlessFrom start layout (first ∷ more) }
 {}
 
-/// A run as one segment, and the same run cut in segments, where a thread with a call open at a cut makes none behind it: the one is sound
-/// where the others are, one behind the other; and so are bytes: where those that spell the others are found right with their orders,
-/// those that spell the one are found right with its order. Dumps are taken at the end alone. The other way round it is so too, where a cut
-/// gives no segment a start of its own and each replica that lags behind it has caught up at it: a touch that faults by a table that
-/// lags from before a cut isn't right behind the cut.
+/// Take a run as one segment, and the same run cut in segments, where a thread with a call open at a cut makes none behind it. The one is sound
+/// where the others are, one behind the other. Where bytes that spell the others are found right with their orders, those that spell the one are
+/// found right with its order. Dumps are taken at the end alone. The other way round it is so too, if no cut gives a segment a start of its own
+/// and each replica that lags behind a cut has caught up at it. A touch that faults by a table that lags from before a cut isn't right behind
+/// the cut.
 pub fn a_cut_keeps_the_verdict()
     ensures as_one { (before : Option Run) (first : Segment) (more : List Segment)
         → MayCome before first.trace.layout → AreCut first more
