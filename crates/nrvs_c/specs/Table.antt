@@ -20,8 +20,8 @@ abbrev pub lent_table : Lenders → Table → List (List ℕ) → List FrameMark
 lent_table lenders handle words marks =
     table_of lenders (depth_in handle) handle.root handle.base (length words) (frames_in handle.taken marks words)
 
--- the numbers of a handle are in range: it has 4 or 5 levels; at most all of its frames were ever taken, and at most these freed; the
--- root is one that was taken, and so is the one that was freed last, where one was
+-- the numbers of a handle are in range. It has 4 or 5 levels. At most all of its frames were ever taken, and at most these freed. The
+-- root is one that was taken, and so is the one that was freed last, if there is one
 abbrev pub is_in_range : Table → Bool
 is_in_range handle =
     (nat_eq handle.levels 4 || nat_eq handle.levels 5) && nat_le handle.taken handle.frames && nat_le handle.given handle.taken
