@@ -28,8 +28,9 @@ fn assert_numbers(rt: &impl Abort, dump: &Dump, first: u64, tables: u16) {
     }
 }
 
-/// There is a dump for each replica: with frames of the replica's own numbers, of which the root is the first, as many as a plain space
-/// has tables after as many of these updates as it has applied, and with that space's pages. The updates are those of the log.
+/// There is a dump for each replica, with frames of the replica's own numbers, of which the root is the first. Take a plain space after as many
+/// of these updates as the replica has applied. The dump has as many frames as that space has tables, and its pages. The updates are those of
+/// the log.
 pub fn assert_dumps(
     rt: &impl Abort,
     alloc: Global,

@@ -120,8 +120,8 @@ fn no_lock_is_held_at_the_gate(rt: HostRuntime) {
     }
 }
 
-/// A call that is stopped makes no further step: it appends no update that has come to a slot of its replica meanwhile, has its
-/// replica take no entry that has come to the log, and does not take its answer, so that its slot is occupied.
+/// A call that is stopped makes no further step. It appends no update that has come to a slot of its replica meanwhile, and has its
+/// replica take no entry that has come to the log. It does not take its answer, so that its slot is occupied.
 #[test]
 fn no_step_after_the_stop(rt: HostRuntime) {
     let removed = Answer::Removed(0x1000, Size::K4, Rights::ALL);

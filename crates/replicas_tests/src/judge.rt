@@ -101,9 +101,9 @@ fn judge_update(rt: &impl Abort, made: &[Made], call: u32, space: &mut PlainSpac
     op
 }
 
-/// Each answer is that of a plain space at its place of the log, in which each call is there once at most: those that were answered do,
-/// and of the others those that were stopped may; and each dump is that of a plain space after as many entries as it says. The calls
-/// are numbered from 0.
+/// Each answer is that of a plain space at its place of the log. Each call is in the log once at most: those that were answered are there, and
+/// of the others those that were stopped may be. Each dump is that of a plain space after as many entries as it says. The calls are numbered
+/// from 0.
 pub fn judge(rt: &impl Abort, alloc: Global, config: Config, settled: &Settled) {
     let made = settled.made.as_slice();
     let places = places_of(rt, alloc, &settled.calls, made.len());
