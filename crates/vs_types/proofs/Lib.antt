@@ -24,3 +24,4 @@ pub mod EntryBytes
 pub mod BitWords
 pub mod AllowedBits
 pub mod ReservedBits
+pub mod FormatOfDepth

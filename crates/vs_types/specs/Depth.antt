@@ -1,6 +1,6 @@
 -- How addresses are cut into levels (Intel SDM volume 3A, chapter "Paging": linear addresses, canonicality, and the
 -- bits that index the table of each level).
-use Rattle.std.specs.Prelude.{ℕ, ◌+◌, ◌-◌, ◌*◌, ◌/◌, ◌%◌, ◌^◌, Bool, ◌||◌, ◌&&◌, nat_lt, nat_le, IsTrue}
+use Rattle.std.specs.Prelude.{ℕ, ◌+◌, ◌-◌, ◌*◌, ◌/◌, ◌%◌, ◌^◌, Bool, ◌||◌, ◌&&◌, nat_lt, nat_le, IsTrue, if◌then◌else◌}
 use Rattle.vs_types.specs.declared.addresses.depth.Depth.{Depth}
 use Rattle.vs_types.specs.declared.addresses.depth.Depth.TheVariants.{Four, Five}
 
@@ -31,3 +31,7 @@ is_canonical depth address = nat_lt address (half_bytes depth) || (nat_le (2 ^ 6
 
 abbrev pub IsCanonical : Depth → ℕ → Type 0
 IsCanonical depth address = IsTrue (is_canonical depth address)
+
+-- the address whose translated bits these are: the bits above repeat the highest of them
+abbrev pub canonical_from : Depth → ℕ → ℕ
+canonical_from depth bits = if nat_lt bits (half_bytes depth) then bits else bits + (2 ^ 64 - 2 * half_bytes depth)

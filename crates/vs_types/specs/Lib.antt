@@ -13,6 +13,7 @@ pub mod Space
 pub mod Step
 pub mod Entry
 pub mod Bits
+pub mod Format
 pub mod Frame
 pub mod Examples
 pub mod Laws

@@ -2,3 +2,6 @@
 
 pub(crate) mod codes;
 pub(crate) mod entry;
+pub(crate) mod format;
+pub(crate) mod kind;
+pub(crate) mod x86;

@@ -23,6 +23,8 @@ pub use entries::entry::{
     is_present, linked_frame, narrowed, page_address, page_word, read_written, reserved_bit,
     rights_at, rights_bits, unflagged, with_address, with_flags_of, with_rights,
 };
+pub use entries::format::EntryFormat;
+pub use entries::kind::EntryKind;
 pub use limits::{CALLS, FRAMES, LOG_PLACES, MOST_LEVELS, REPLICAS, RING, TABLES, THREADS};
 pub use log_entry::{LogEntry, entry_of, pack, unpack};
 pub use requests::answer::Answer;

@@ -15,7 +15,7 @@ pub enum Depth {
 }
 
 impl Depth {
-    ghost use Rattle.vs_types.specs.Depth.{levels, is_canonical};
+    ghost use Rattle.vs_types.specs.Depth.{canonical_from, half_bytes, is_canonical, levels};
     ghost use Rattle.vs_types.specs.Operation.{base_fault};
     ghost use Rattle.vs_types.specs.Faults.{GivesUnless};
 
@@ -35,6 +35,19 @@ impl Depth {
     {
         let half = 1u64 << (11 + 9 * self.levels());
         address.wrapping_add(half) < 2 * half
+    }
+
+    /// The address whose translated bits are these: the bits above repeat the highest of them.
+    pub fn canonical_from(self, bits: u64) -> u64
+        requires { bits < 2 * half_bytes self }
+        ensures { result ≡ canonical_from self bits }
+    {
+        let half = 1u64 << (11 + 9 * self.levels());
+        if bits < half {
+            bits
+        } else {
+            bits + (u64::MAX - half - half + 1)
+        }
     }
 
     pub(crate) fn test_base(self, base: u64) -> Result<(), BadOp>
