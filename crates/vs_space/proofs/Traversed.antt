@@ -259,7 +259,7 @@ module _ {t : PageTable} (pages : IsPageTable t) where
             (Contains-cases (OfFrame table.number) _ (OfFrame n) (subst (λ ms. Contains ms (OfFrame n)) (table_met t.depth t.memory level table words is) met))
       ] refl
     where
-      one_number : (x y : ℕ) → OfFrame x ≡ OfFrame y → x ≡ y
+      one_number : (x y : ℕ) → ◌≡◌ {A = Visit} (OfFrame x) (OfFrame y) → x ≡ y
       one_number x y e = cc
 
   -- ---- each frame once

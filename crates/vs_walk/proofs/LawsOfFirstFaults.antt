@@ -8,6 +8,7 @@ use Rattle.std.proofs.lemmas.List.{append_assoc, append-nil}
 use Rattle.std.proofs.lemmas.List.Folds.{list_any-append}
 use Rattle.std.proofs.lemmas.List.Elements.{All-nil, All-cons, All-head, All-tail, filter_map-append}
 use Rattle.vs_types.proofs.Lists.{Contains-head, Contains-tail}
+use Rattle.vs_types.specs.declared.addresses.page.Page.{Page}
 use Rattle.vs_walk.specs.Memory.{Memory}
 use Rattle.vs_walk.specs.Traversal.{Visit, OfFrame, OfLeaf, OfReservedBit, reached_by, reached, visit_fault, first_fault_after}
 use Rattle.vs_walk.specs.declared.walk.WalkFault.{WalkFault}
@@ -197,6 +198,6 @@ faultless_from memory earlier (OfLeaf page ∷ later) fine apart new =
     (new_after earlier (OfLeaf page) (reached later) refl new)
 faultless_from memory earlier (OfReservedBit number index ∷ later) fine apart new = absurd (All-head (IsFine memory) (OfReservedBit number index) later fine)
 
-pub all_new : (numbers : List ℕ) → AllByRecursion (λ number. list_any (nat_eq number) (reached []) ≡ false) numbers
+pub all_new : (numbers : List ℕ) → AllByRecursion (λ number. list_any (nat_eq number) (reached {P = Page} []) ≡ false) numbers
 all_new [] = tt
 all_new (number ∷ numbers) = (refl, all_new numbers)

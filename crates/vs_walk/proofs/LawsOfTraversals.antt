@@ -162,11 +162,11 @@ index_met (OfFrame number) = number
 index_met (OfLeaf page) = 0
 index_met (OfReservedBit number index) = index
 
-same_frame : (number index other at : ℕ) → OfReservedBit number index ≡ OfReservedBit other at → number ≡ other
+same_frame : (number index other at : ℕ) → ◌≡◌ {A = Visit} (OfReservedBit number index) (OfReservedBit other at) → number ≡ other
 unfolding frame_met
 same_frame number index other at is = ap frame_met is
 
-same_index : (number index other at : ℕ) → OfReservedBit number index ≡ OfReservedBit other at → index ≡ at
+same_index : (number index other at : ℕ) → ◌≡◌ {A = Visit} (OfReservedBit number index) (OfReservedBit other at) → index ≡ at
 unfolding index_met
 same_index number index other at is = ap index_met is
 

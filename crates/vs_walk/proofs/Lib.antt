@@ -3,6 +3,7 @@ pub mod Filled
 pub mod Added
 pub mod Kept
 pub mod Walks
+pub mod InFormat
 pub mod Gathered
 pub mod ReachedNumbers
 pub mod EightWords

@@ -11,18 +11,17 @@ use Rattle.std.proofs.lemmas.Map.Views.{Contains-from_any, list_any-from_Contain
 use Rattle.vs_types.proofs.Lists.{Contains-head, Contains-tail, Contains-cases, not_in_nil}
 use Rattle.vs_walk.specs.Memory.{Memory}
 use Rattle.vs_walk.specs.Reached.{AreJust}
-use Rattle.vs_walk.specs.Traversal.{Visit, OfFrame, OfLeaf, OfReservedBit, reached_by, found_by, reached, found, visit_fault, first_fault_after}
+use Rattle.vs_walk.specs.Traversal.{VisitOf, OfFrame, OfLeaf, OfReservedBit, reached_by, found_by, reached, found, visit_fault, first_fault_after}
 use Rattle.vs_walk.specs.inside.Traversed.{GoesOn, Stops, TakesFound}
 use Rattle.vs_walk.specs.declared.walk.WalkFault.{WalkFault}
 use Rattle.vs_walk.specs.declared.walk.WalkFault.TheVariants.{Missing, Shared, Reserved}
-use Rattle.vs_types.specs.declared.addresses.page.Page.{Page}
 
 -- ---- the frames that are marked
 
-pub reached_both : (ms ns : List Visit) → reached (ms ++ ns) ≡ reached ms ++ reached ns
+pub reached_both : {P : Type 0} (ms ns : List (VisitOf P)) → reached (ms ++ ns) ≡ reached ms ++ reached ns
 reached_both = filter_map-append reached_by
 
-pub found_both : (ms ns : List Visit) → found (ms ++ ns) ≡ found ms ++ found ns
+pub found_both : {P : Type 0} (ms ns : List (VisitOf P)) → found (ms ++ ns) ≡ found ms ++ found ns
 found_both = filter_map-append found_by
 
 just_both : (a b xs ys : List ℕ) → AreJust a b → AreJust xs ys → AreJust (a ++ xs) (b ++ ys)
@@ -40,7 +39,8 @@ just_then : (a b c : List ℕ) → AreJust a b → AreJust b c → AreJust a c
 just_then a b c left right number = (λ h. (right number).0 ((left number).0 h), λ h. (left number).1 ((right number).1 h))
 
 -- the frames that are marked after a part are those that are reached then
-pub marked_then : (memory : Memory) (before after : List ℕ) (ms earlier : List Visit) → GoesOn memory before after ms → AreJust before (reached earlier)
+pub marked_then : {P : Type 0} (memory : Memory) (before after : List ℕ) (ms earlier : List (VisitOf P)) → GoesOn memory before after ms → AreJust before
+    (reached earlier)
     → AreJust after (reached (earlier ++ ms))
 marked_then memory before after ms earlier on just =
     subst (AreJust after) (sym (reached_both earlier ms))
@@ -49,7 +49,7 @@ marked_then memory before after ms earlier on just =
 
 -- ---- parts one after another
 
-pub faults_after : (memory : Memory) (earlier ms ns : List Visit) → first_fault_after memory earlier ms ≡ None
+pub faults_after : {P : Type 0} (memory : Memory) (earlier ms ns : List (VisitOf P)) → first_fault_after memory earlier ms ≡ None
     → first_fault_after memory earlier (ms ++ ns) ≡ first_fault_after memory (earlier ++ ms) ns
 faults_after memory earlier [] ns none = ap (λ es. first_fault_after memory es ns) (sym (append-nil earlier))
 faults_after memory earlier (visit ∷ ms) ns none = by_first (visit_fault memory earlier visit) refl none
@@ -61,7 +61,7 @@ faults_after memory earlier (visit ∷ ms) ns none = by_first (visit_fault memor
       by_first (Some fault) is none rest = let bad : Some fault ≡ None = rw is at none in cc
       by_first None is none rest = rw is (rest (rw is at none) ∙ ap (λ es. first_fault_after memory es ns) (append_assoc earlier (visit ∷ []) ms))
 
-pub fault_stays : (memory : Memory) (earlier ms ns : List Visit) (fault : WalkFault) → first_fault_after memory earlier ms ≡ Some fault
+pub fault_stays : {P : Type 0} (memory : Memory) (earlier ms ns : List (VisitOf P)) (fault : WalkFault) → first_fault_after memory earlier ms ≡ Some fault
     → first_fault_after memory earlier (ms ++ ns) ≡ Some fault
 fault_stays memory earlier [] ns fault some = cc
 fault_stays memory earlier (visit ∷ ms) ns fault some = by_first (visit_fault memory earlier visit) refl some
@@ -72,7 +72,8 @@ fault_stays memory earlier (visit ∷ ms) ns fault some = by_first (visit_fault 
       by_first (Some other) is some rest = rw is (rw is at some)
       by_first None is some rest = rw is (rest (rw is at some))
 
-pub goes_on : (memory : Memory) (a b c : List ℕ) (ms ns : List Visit) → GoesOn memory a b ms → GoesOn memory b c ns → GoesOn memory a c (ms ++ ns)
+pub goes_on : {P : Type 0} (memory : Memory) (a b c : List ℕ) (ms ns : List (VisitOf P)) → GoesOn memory a b ms → GoesOn memory b c ns → GoesOn memory a c
+    (ms ++ ns)
 goes_on memory a b c ms ns left right = record {
   faultless = λ earlier just.
       faults_after memory earlier ms ns (left.faultless earlier just)
@@ -82,36 +83,39 @@ goes_on memory a b c ms ns left right = record {
       (just_both b (a ++ reached ms) (reached ns) (reached ns) left.marked (just_same (reached ns))));
 }
 
-pub stops_later : (memory : Memory) (a b : List ℕ) (ms ns : List Visit) (fault : WalkFault) → GoesOn memory a b ms → Stops memory b ns fault
+pub stops_later : {P : Type 0} (memory : Memory) (a b : List ℕ) (ms ns : List (VisitOf P)) (fault : WalkFault) → GoesOn memory a b ms → Stops memory b ns fault
     → Stops memory a (ms ++ ns) fault
 stops_later memory a b ms ns fault left right = record {
   first = λ earlier just. faults_after memory earlier ms ns (left.faultless earlier just)
       ∙ right.first (earlier ++ ms) (marked_then memory a b ms earlier left just);
 }
 
-pub stops_before : (memory : Memory) (a : List ℕ) (ms ns : List Visit) (fault : WalkFault) → Stops memory a ms fault → Stops memory a (ms ++ ns) fault
+pub stops_before : {P : Type 0} (memory : Memory) (a : List ℕ) (ms ns : List (VisitOf P)) (fault : WalkFault) → Stops memory a ms fault → Stops memory a
+    (ms ++ ns) fault
 stops_before memory a ms ns fault stops = record { first = λ earlier just. fault_stays memory earlier ms ns fault (stops.first earlier just) }
 
-pub takes_none : {V : Type 0} (HasTaken : V → List Page → Type 0) (v : V) (ms : List Visit) → found ms ≡ [] → TakesFound (HasTaken v) (HasTaken v) ms
+pub takes_none : {P V : Type 0} (HasTaken : V → List P → Type 0) (v : V) (ms : List (VisitOf P)) → found ms ≡ [] → TakesFound (HasTaken v) (HasTaken v) ms
 takes_none HasTaken v ms none pages h = subst (HasTaken v) (sym (ap (λ ps. pages ++ ps) none ∙ append-nil pages)) h
 
-pub takes_both : {V : Type 0} (HasTaken : V → List Page → Type 0) (u v w : V) (ms ns : List Visit) → TakesFound (HasTaken u) (HasTaken v) ms
+pub takes_both : {P V : Type 0} (HasTaken : V → List P → Type 0) (u v w : V) (ms ns : List (VisitOf P)) → TakesFound (HasTaken u) (HasTaken v) ms
     → TakesFound (HasTaken v) (HasTaken w) ns → TakesFound (HasTaken u) (HasTaken w) (ms ++ ns)
 takes_both HasTaken u v w ms ns left right pages h =
     subst (HasTaken w) (append_assoc pages (found ms) (found ns) ∙ ap (λ ps. pages ++ ps) (sym (found_both ms ns))) (right (pages ++ found ms) (left pages h))
 
 -- ---- single visits
 
-pub none_on : (memory : Memory) (a : List ℕ) → GoesOn memory a a []
+pub none_on : {P : Type 0} (memory : Memory) (a : List ℕ) → GoesOn {P = P} memory a a []
 none_on memory a = record { faultless = λ earlier just. refl; marked = subst (AreJust a) (sym (append-nil a)) (just_same a) }
 
-pub finds_on : (memory : Memory) (a : List ℕ) (page : Page) → GoesOn memory a a (OfLeaf page ∷ [])
+pub finds_on : {P : Type 0} (memory : Memory) (a : List ℕ) (page : P) → GoesOn memory a a (OfLeaf page ∷ [])
 finds_on memory a page = record { faultless = λ earlier just. refl; marked = subst (AreJust a) (sym (append-nil a)) (just_same a) }
 
-pub meets_stops : (memory : Memory) (a : List ℕ) (number index : ℕ) → Stops memory a (OfReservedBit number index ∷ []) (Reserved number index)
+pub meets_stops : {P : Type 0} (memory : Memory) (a : List ℕ) (number index : ℕ) → Stops {P = P} memory a (OfReservedBit number index ∷ [])
+    (Reserved number index)
 meets_stops memory a number index = record { first = λ earlier just. refl }
 
-pub missing_stops : (memory : Memory) (a : List ℕ) (number : ℕ) → finite.get memory number ≡ None → Stops memory a (OfFrame number ∷ []) (Missing number)
+pub missing_stops : {P : Type 0} (memory : Memory) (a : List ℕ) (number : ℕ) → finite.get memory number ≡ None → Stops {P = P} memory a (OfFrame number ∷ [])
+    (Missing number)
 missing_stops memory a number none = record { first = λ earlier just. rw none refl }
 
 in_list : (a : List ℕ) (number : ℕ) → Contains a number → list_any (nat_eq number) a ≡ true
@@ -121,14 +125,14 @@ not_in_list : (a : List ℕ) (number : ℕ) → (Contains a number → ⊥) → 
 not_in_list a number new = ⊎_elim (λ held. absurd (new (Contains-from_any exact_unsigned_eq number a held))) (λ is. is)
     (cases_Bool (list_any (nat_eq number) a))
 
-pub shared_stops : (memory : Memory) (a : List ℕ) (number : ℕ) (words : List ℕ) → finite.get memory number ≡ Some words → Contains a number
-    → Stops memory a (OfFrame number ∷ []) (Shared number)
+pub shared_stops : {P : Type 0} (memory : Memory) (a : List ℕ) (number : ℕ) (words : List ℕ) → finite.get memory number ≡ Some words → Contains a number
+    → Stops {P = P} memory a (OfFrame number ∷ []) (Shared number)
 shared_stops memory a number words some held = record {
   first = λ earlier just. rw (some, in_list (reached earlier) number ((just number).0 held)) refl;
 }
 
-pub new_on : (memory : Memory) (a b : List ℕ) (new : Bool) (number : ℕ) (words : List ℕ) → finite.get memory number ≡ Some words
-    → IsTrue (not new) ↔ Contains a number → new ≡ true → AreJust b (number ∷ a) → GoesOn memory a b (OfFrame number ∷ [])
+pub new_on : {P : Type 0} (memory : Memory) (a b : List ℕ) (new : Bool) (number : ℕ) (words : List ℕ) → finite.get memory number ≡ Some words
+    → IsTrue (not new) ↔ Contains a number → new ≡ true → AreJust b (number ∷ a) → GoesOn {P = P} memory a b (OfFrame number ∷ [])
 new_on memory a b new number words some tells is added = record {
   faultless = λ earlier just. rw (some, not_in_list (reached earlier) number (λ h. not_held ((just number).1 h))) refl;
   marked = just_then b (number ∷ a) (a ++ number ∷ []) added (λ other. (

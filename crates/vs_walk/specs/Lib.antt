@@ -1,6 +1,7 @@
 pub mod Memory
 pub mod Walk
 pub mod Traversal
+pub mod InFormat
 pub mod Reached
 pub mod Differences
 pub mod Dump

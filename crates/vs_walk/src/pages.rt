@@ -1,11 +1,9 @@
 //! The pages that a page table maps, and what `leaves` answers.
-ghost use Rattle.std.specs.Prelude.{◌≡◌, []};
+ghost use Rattle.std.specs.Prelude.{◌≡◌};
 
 use crate::reached::Reached;
-use crate::traversal::PageVisitor;
-use std::alloc::Global;
 use std::marker::Model;
-use vs_types::{Memory, Page};
+use vs_types::Page;
 
 /// Pages one after another. Contracts see their list.
 #[derive(Debug, Drop)]
@@ -27,13 +25,11 @@ impl Model for Pages {
 }
 
 impl Pages {
-    /// No pages. It allocates no memory.
-    pub(crate) fn new(alloc: Global) -> Pages
-        ensures { result ≡ [] }
+    /// These pages.
+    pub(crate) fn of(pages: Vec<Page>) -> Pages
+        ensures { result ≡ pages.items }
     {
-        Pages {
-            pages: Vec::new(alloc),
-        }
+        Pages { pages }
     }
 
     /// All of them, in order.
@@ -41,16 +37,6 @@ impl Pages {
         ensures { result.now ≡ self.now }
     {
         self.pages.as_slice()
-    }
-}
-
-/// Keeps the pages in the order in which it takes them.
-impl PageVisitor for Pages {
-    ghost HasTaken = { λ kept pages. kept ≡ pages };
-
-    fn take(&mut self, page: Page) -> Result<(), Memory> {
-        self.pages.push(page)?;
-        Ok(())
     }
 }
 

@@ -10,9 +10,9 @@ abbrev pub invariant-loop-next : goal.invariant-loop-next
 invariant-loop-next g l = record {
   word : l.next.word ≡ get_or l.words l.next.index 0;
   goes_on : GoesOn (g.F.Frames.memory l.frames) l.fn.marks l.marks
-      (met_up_to l.depth (g.F.Frames.memory l.frames) l.place.level (table_at l.place) l.words l.next.index);
-  takes : TakesFound (g.V.PageVisitor.HasTaken l.fn.visitor) (g.V.PageVisitor.HasTaken l.visitor)
-      (met_up_to l.depth (g.F.Frames.memory l.frames) l.place.level (table_at l.place) l.words l.next.index);
+      (met_up_to (g.E.EntryFormat.format l.format) (g.F.Frames.memory l.frames) l.place.level (table_at l.place) l.words l.next.index);
+  takes : TakesFound (g.V.VisitorOf.HasVisited l.fn.visitor) (g.V.VisitorOf.HasVisited l.visitor)
+      (met_up_to (g.E.EntryFormat.format l.format) (g.F.Frames.memory l.frames) l.place.level (table_at l.place) l.words l.next.index);
 }
 
 abbrev pub decreases-loop-next : goal.decreases-loop-next

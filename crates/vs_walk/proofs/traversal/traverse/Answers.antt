@@ -1,15 +1,34 @@
-use Rattle.std.proofs.Common.{ℕ, List, ◌++◌, sym, subst}
-use Rattle.vs_types.specs.Depth.{levels}
+use Rattle.std.proofs.Common.{◌≡◌, [], Some, None, subst}
+use Rattle.std.specs.Prelude.{IfOk, IfErr, OnOk}
+use Rattle.vs_types.specs.Refusal.{IfRefused}
 use Rattle.vs_walk.specs.Reached.{AreJust}
-use Rattle.vs_walk.specs.Traversal.{table_visits, reached}
-use Rattle.vs_walk.specs.Walk.{all_rights}
+use Rattle.vs_walk.specs.Traversal.{first_fault_after, reached}
+use Rattle.vs_walk.specs.inside.Traversed.{TakesFound}
+use Rattle.vs_walk.proofs.InFormat.{same_traversal}
 use Rattle.vs_walk.proofs.traversal.traverse.Goals as goal
+
+pub returns-clause-pages : goal.returns-clause-pages
+returns-clause-pages g c =
+    let memory = g.F.Frames.memory c.args.frames.now in
+    subst (λ ms. IfOk c.traverse_in.result
+    (λ _. TakesFound (g.V.PageVisitor.HasTaken c.args.visitor.now) (g.V.PageVisitor.HasTaken c.traverse_in.new.visitor) ms))
+    (same_traversal c.args.depth memory c.args.root) c.traverse_in.ensures.pages
+
+pub returns-clause-faultless : goal.returns-clause-faultless
+returns-clause-faultless g c =
+    let memory = g.F.Frames.memory c.args.frames.now in
+    subst (λ ms. OnOk c.traverse_in.result (first_fault_after memory [] ms ≡ None))
+    (same_traversal c.args.depth memory c.args.root)
+    c.traverse_in.ensures.faultless
 
 pub returns-clause-reached : goal.returns-clause-reached
 returns-clause-reached g c =
     let memory = g.F.Frames.memory c.args.frames.now in
-    let reached_at = λ (level : ℕ). reached (table_visits c.args.depth memory level record { number = c.args.root; start = 0; rights = all_rights }) in
-    let marked : AreJust c.go_through.new.marks (reached_at c.levels.result) =
-    subst (λ (ks : List ℕ). AreJust c.go_through.new.marks (ks ++ reached_at c.levels.result)) c.new-marks.ensures c.in_ok-go_through.ensures.goes_on.marked in
-    subst (λ ks. AreJust ks (reached_at (levels c.args.depth))) (sym c.in_ok-list.ensures)
-    (subst (λ level. AreJust c.go_through.new.marks (reached_at level)) c.levels.ensures marked)
+    subst (λ ms. IfOk c.traverse_in.result (λ r. AreJust r (reached ms)))
+    (same_traversal c.args.depth memory c.args.root) c.traverse_in.ensures.reached
+
+pub returns-clause-first : goal.returns-clause-first
+returns-clause-first g c =
+    let memory = g.F.Frames.memory c.args.frames.now in
+    subst (λ ms. IfErr c.traverse_in.result (IfRefused (λ fault. first_fault_after memory [] ms ≡ Some fault)))
+    (same_traversal c.args.depth memory c.args.root) c.traverse_in.ensures.first
