@@ -1,0 +1,2 @@
+pub mod EptWords
+pub mod Lowest
