@@ -5,6 +5,7 @@ import subprocess
 import tempfile
 import xml.etree.ElementTree
 
+import linux_live
 import machine
 import results
 from counting import check, skip
@@ -106,23 +107,15 @@ def check_results() -> None:
 
 # ---- new recordings ----
 
-def run(*words: str, tries: int = 3) -> tuple[int, str]:
-    """A recording. On a busy machine QEMU may begin to follow the guest's code too late, so that the process is missed: then once more."""
-    done = subprocess.run([RUN, *words], stdout=subprocess.PIPE, stderr=subprocess.STDOUT)
-    said = done.stdout.decode()
-    is_missed = "nothing was watched" in said and tries > 1
-    return run(*words, tries=tries - 1) if is_missed else (done.returncode, said)
-
-
 def check_driver() -> None:
     """A driver's memory is unmapped by two tasks at the same time: one flushes for the other, and frees it."""
-    status, said = run("driver", "--chain", "1000", "--keep-log")
-    if status == 2 and "linux-headers" in said:
-        skip(said.strip())
+    if not os.path.isdir(f"/lib/modules/{machine.kernel().version}/build"):
+        skip(f"a driver: no linux-headers-{machine.kernel().version}")
         return
-    check("Linux is right where one task flushes for another", status == 0 and "nrvs audit of its chain: segments" in said, said)
+    if not linux_live.sound("driver", "driver", "--chain", "1000", "--keep-log"):
+        return
     begins = machine.text_of(f"{machine.OUT}/driver.log").count("\n@flushing ")
-    check("and its log is kept, with the begins of flushes", begins > 10, begins)
+    check("and its log is kept, with the begins of flushes", begins > 0, begins)
 
 
 def check_own() -> None:
@@ -132,12 +125,13 @@ def check_own() -> None:
             file.write(PROGRAM)
         subprocess.run(["gcc", "-static", "-o", f"{folder}/mine", f"{folder}/mine.c"], check=True)
         words = ["--program", f"{folder}/mine 'two words'", "--init", "echo note: begun", "--rest", "0", "--tap"]
-        status, said = run(*words, "--junit", f"{folder}/said.xml")
-        check("a program of one's own is recorded", status == 0 and said.startswith("TAP version 13\n1..1\nok 1 - mine: `segments "), said)
-        serial = machine.text_of(f"{machine.OUT}/mine.serial")
-        check("with its words, behind what was to be done first", "note: begun" in serial and "the words: 2 two words" in serial, serial[-300:])
-        suite = xml.etree.ElementTree.parse(f"{folder}/said.xml").getroot()
-        check("and said in an XML file", [case.get("name") for case in suite] == ["mine"] and suite.get("failures") == "0")
-        status, said = run(*words, "--plant", "gather")
-        found = re.search(r"^ok 1 - planted-gather-mine: `segment \d+; no 2[45] (?:Stale|Reachable) \d+`$", said, re.M)
-        check("with a bug it is a no", status == 1 and found, said)
+        if said := linux_live.sound("a program of one's own", *words, "--junit", f"{folder}/said.xml"):
+            check("and what is said of it is for machines", said.startswith("TAP version 13\n1..1\nok 1 - mine: `segments "), said)
+            serial = machine.text_of(f"{machine.OUT}/mine.serial")
+            check("with its words, behind what was to be done first", "note: begun" in serial and "the words: 2 two words" in serial,
+                  serial[-300:])
+            suite = xml.etree.ElementTree.parse(f"{folder}/said.xml").getroot()
+            check("and said in an XML file", [case.get("name") for case in suite] == ["mine"] and suite.get("failures") == "0")
+        if said := linux_live.planted("gather", *words):
+            found = re.search(r"^ok 1 - planted-gather-mine: `segment \d+; no 2[45] (?:Stale|Reachable) \d+`$", said, re.M)
+            check("and what is said of it with a bug", found, said)

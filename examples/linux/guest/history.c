@@ -213,6 +213,36 @@ void unmap_what_shares_a_table(void)
 	close(file);
 }
 
+/* The first page of two has no table: the kernel goes on where the next table begins. It may not go on there where the pages are moved to,
+ * since these are at another place of their tables. */
+void move_large_pages(void)
+{
+	int file;
+
+	put("/proc/sys/vm/nr_hugepages", "4");
+	file = memfd_create("large", MFD_CLOEXEC | MFD_HUGETLB);
+	if (file < 0 || ftruncate(file, (off_t)(2 * TABLE)))
+		note("hugetlbfs");
+	for (unsigned round = 0; round < rounds; round++) {
+		uint64_t from = 0xa00000000 + round * 4 * GIB, to = from + 2 * GIB;
+		char *at = map_at(from + GIB - TABLE, 2 * TABLE, READ_WRITE, MAP_SHARED | MAP_NORESERVE, file), *moved;
+		char *outside = map_at(to + GIB, TABLE, READ_WRITE, PRIVATE, -1);
+
+		at[TABLE] = (char)(round + 1);
+		munmap(outside, TABLE);
+		moved = mremap(at, 2 * TABLE, 2 * TABLE, MREMAP_MAYMOVE | MREMAP_FIXED, (void *)to);
+		if (moved == MAP_FAILED) {
+			note("mremap");
+			return;
+		}
+		has_to_fault(outside, 0, "a read of where nothing is mapped");
+		if (moved[TABLE] != (char)(round + 1))
+			note("another content");
+		munmap(moved, 2 * TABLE);
+	}
+	close(file);
+}
+
 /* ---- pages that are written, reclaimed, dropped ---- */
 
 void clear_soft_dirty(void)

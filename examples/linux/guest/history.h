@@ -14,6 +14,9 @@ void move_what_is_collapsed(void);
 /* Two mappings of large pages (hugetlbfs) share a table; one is unmapped. */
 void unmap_what_shares_a_table(void);
 
+/* Large pages (hugetlbfs) are moved, the first of which isn't there. */
+void move_large_pages(void);
+
 /* The kernel is asked to note again which pages are written (soft-dirty). */
 void clear_soft_dirty(void);
 

@@ -200,8 +200,9 @@ int run_pair(uint64_t random, unsigned rounds, int only_logs)
 	return others;
 }
 
-int run_sparse(unsigned rounds)
+int run_sparse(unsigned rounds, int is_dense)
 {
+	uint64_t end = is_dense ? MIB : HALF, written = is_dense ? end : 2 * RUN;
 	pid_t other;
 	int others = 0;
 
@@ -214,8 +215,9 @@ int run_sparse(unsigned rounds)
 	begin_machine(1);
 	others += access_pages(LARGE, 1); /* the second half of the range has a table of nested pages from here on */
 	for (unsigned round = 0; round < rounds; round++) {
-		others += access_pages(RUN, 1);
-		madvise(machine.memory + RUN, HALF - RUN, MADV_DONTNEED);
+		for (uint64_t base = RUN; base < written; base += RUN)
+			others += access_pages(base, 1);
+		madvise(machine.memory + RUN, end - RUN, MADV_DONTNEED);
 	}
 	kill(other, SIGKILL);
 	return others;

@@ -481,6 +481,7 @@ static const struct {
 	{ "driver-frees", let_driver_free_pages }, { "driver-frees-high", let_driver_free_high_pages }, { "driver-fails", let_driver_fail },
 	{ "truncated", move_what_is_truncated }, { "truncated-tables", move_tables_of_what_is_truncated },
 	{ "collapsed", move_what_is_collapsed }, { "shared-tables", unmap_what_shares_a_table }, { "dropped-twice", drop_twice },
+	{ "moved-large", move_large_pages },
 	{ "soft-dirty", clear_soft_dirty }, { "read-by-others", reclaim_what_is_read }, { "reclaimed-by-another", protect_what_is_reclaimed },
 };
 

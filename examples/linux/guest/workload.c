@@ -114,7 +114,12 @@ static int fork_watched(uint64_t pages)
 
 static int is_of_monitor(const char *what)
 {
-	return !strcmp(what, "monitor") || !strcmp(what, "logged") || !strcmp(what, "pair") || !strcmp(what, "sparse");
+	static const char *const all[] = { "monitor", "logged", "pair", "sparse", "dense" };
+	unsigned k = 0;
+
+	while (k < sizeof all / sizeof all[0] && strcmp(what, all[k]))
+		k++;
+	return k < sizeof all / sizeof all[0];
 }
 
 static int monitor_watched(const char *what, char **names)
@@ -128,8 +133,8 @@ static int monitor_watched(const char *what, char **names)
 	say(MARK_NEXT);
 	if (!strcmp(what, "monitor"))
 		others = run_monitor(seed, rounds);
-	else if (!strcmp(what, "sparse"))
-		others = run_sparse(rounds);
+	else if (!strcmp(what, "sparse") || !strcmp(what, "dense"))
+		others = run_sparse(rounds, !strcmp(what, "dense"));
 	else
 		others = !strcmp(what, "logged") ? run_logged(rounds) : run_pair(seed, rounds, is_planted);
 	printf("DONE, %d wrong\n", others);
