@@ -27,6 +27,7 @@ class Chain:
     kept: BinaryIO | None       # a file that gets all of it
     log: TextIO | None          # .. and one that gets the log's lines
     segments: collections.deque[bytes] = field(default_factory=lambda: collections.deque(maxlen=KEPT))
+    log_tag: str = "@"          # with which its lines begin there
     is_read: bool = True        # the auditor reads on: it has found no fault
     verdict: list[str] = field(default_factory=list)
 
@@ -39,12 +40,13 @@ class Chain:
             self.audit.stdin.flush()
         except BrokenPipeError:
             self.is_read = False
+            self.converter.private.leave()
 
     def take(self, line: str) -> None:
         if self.is_read:
             for each in self.slimmer.of_line(line):
                 if self.log:
-                    self.log.write(each)
+                    self.log.write(self.log_tag + each[1:])
                 for parsed in log_lines.parse([each]):
                     self.converter.put(parsed)
 
@@ -82,6 +84,14 @@ def begin(path: str, place: Callable[[int], tuple[str, int]], tag: str, updates:
         chain.slimmer.task_states = before.slimmer.task_states
     converter.put_segment, converter.put_calls = chain.put, chain.calls.write
     return chain
+
+
+def relate(parent: Chain, child: Chain) -> None:
+    """One is of a process, and the other one of the first child that it asks for. One log has the lines of both."""
+    child.converter.parent = parent.converter
+    if child.log:
+        child.log.close()
+        child.log, child.log_tag = parent.log, child.slimmer.tag
 
 
 def feed(chains: list[Chain], lines: Iterable[str]) -> None:

@@ -2,12 +2,12 @@
 """Makes a trace of a recorder's log: each change of a translation is an update, each access and each page fault an access. In a chain these
 are touches, and memory that the kernel frees is a release.
 
-    convert.py [--no-intent] [--every-access | --chain N [--no-releases]] [--most N] [--calls FILE] LOG >TRACE
+    convert.py [--no-intent] [--every-access | --chain N [--no-releases] [--child]] [--most N] [--calls FILE] LOG >TRACE
 
 LOG is a file, or - for standard input. One that ends with .xz is unpacked.
 --no-intent: what mprotect and munmap promised is left to the tables.   --every-access: also those between a store and its flush.
 --chain: a chain of segments of some N updates each, with all accesses as touches; it may begin with tables that have pages.
---no-releases: what the kernel frees is left out.
+--no-releases: what the kernel frees is left out.   --child: the chain of the process's child, if the log has lines of one.
 --most: stop after so many updates.   --calls: where each call comes from, a line each, parted by tabs: its number, the processor or
 the task, what ended the time of an update that takes away, and the instructions, each an address and its place in the kernel: that of
 the store or the access, and those to which the calls return that led there.
@@ -18,18 +18,17 @@ import argparse
 import bisect
 import collections
 import functools
-import lzma
 import os
 import sys
 from collections.abc import Callable, Iterable, Iterator
 from dataclasses import dataclass, field
-from typing import NamedTuple, TextIO
+from typing import NamedTuple
 
 sys.dont_write_bytecode = True
 import log_lines
 from log_lines import (Access, Born, Dumped, End, Entered, Entry, Fault, Flushed, Flushing, InUser, Line, Note, Released, Returned, Store,
-                       Symbol, Table, Word)
-from page_tables import BYTES, Change, Page, PageTables
+                       Symbol, Table, Word, open_lines, read_lines)
+from page_tables import BYTES, Change, Page, PageTables, parts_of
 from private_pages import UNWRITTEN, PrivatePages, is_fork
 import met
 from chain_bytes import Segment
@@ -38,6 +37,7 @@ from promises import MUNMAP, PROTECTS, Promises, allowed_by, rounded, taken_away
 from trace_bytes import ACCESS, ALLOWED, CHANGED, DONE, FAULT, MAP, PROTECT, REMOVED, UNMAP, Frames, Trace
 from windows import EVERYTHING, Update, Windows
 
+CHILD = "%"                     # with which lines begin of the child of a process that is watched too
 PROCESSORS = 8                  # threads 0 to 7 are the processors' accesses, the others updates under way
 MORE = "pages that allow more than a system call said"
 LATER = "pages that were stored later, and allow more than a system call said"
@@ -98,6 +98,7 @@ class Converter:
     counts: collections.Counter[str] = field(default_factory=collections.Counter)
     is_over: bool = False
     is_cut: bool = False
+    parent: "Converter | None" = None                                       # of the process that makes this address space by a fork
 
     def __post_init__(self) -> None:
         if self.options.chain:
@@ -322,6 +323,9 @@ class Converter:
     # ---- the log ----
 
     def take(self, line: Line) -> None:
+        if self.private.shared and isinstance(line, Access | Fault | Entered):      # the child runs
+            for base in self.private.left_writable(self.pages):
+                self.keep_promise(base, UNWRITTEN, getattr(line, "task", 0), FORKED)
         match line:
             case Store():
                 self.store(line)
@@ -352,6 +356,8 @@ class Converter:
         match line:
             case Born(root):
                 self.tables = PageTables(root)
+                if self.parent:
+                    self.private.inherit(self.parent.private, self.parent.pages)
             case Table(frame, level):
                 self.tables.tell(frame, level)
             case Word(frame, index, word):
@@ -366,6 +372,7 @@ class Converter:
                 self.notes.append(text)
             case End():
                 self.is_over = True
+                self.private.leave()
 
     def is_enough(self) -> bool:
         return self.trace.is_full() or 0 < self.options.most <= self.placed + len(self.trace.log)
@@ -437,34 +444,22 @@ class Converter:
         return "".join(rows)
 
 
-def parts_of(frame: int, count: int) -> Iterator[tuple[int, int]]:
-    """Frames as memory of the sizes of pages, the largest that fit: each a size's code and a physical address."""
-    at, end = frame * BYTES[0], (frame + count) * BYTES[0]
-    while at < end:
-        size = next(code for code in (2, 1, 0) if at % BYTES[code] == 0 and at + BYTES[code] <= end)
-        yield size, at
-        at += BYTES[size]
-
-
-def open_lines(path: str) -> TextIO:
-    """A log's lines; those of standard input where it is -."""
-    if path == "-":
-        return sys.stdin
-    return lzma.open(path, "rt") if path.endswith(".xz") else open(path)
-
-
-def read_lines(path: str) -> list[str]:
-    with open_lines(path) as file:
-        return file.readlines()
+def convert_both(lines: Iterable[str], options: Options, put_segment: Callable[[bytes], object] | None = None) -> tuple[Converter, Converter]:
+    """Takes all lines of a process and, if some begin with CHILD, of its child."""
+    parent, child = Converter(options, put_segment=put_segment), Converter(options)
+    child.parent = parent
+    for line in lines:
+        of_child = line.startswith(CHILD)
+        for parsed in log_lines.parse(["@" + line[1:] if of_child else line]):
+            (child if of_child else parent).put(parsed)
+    for each in (parent, child):
+        each.finish()
+    return parent, child
 
 
 def convert(lines: Iterable[str], options: Options = Options(), put_segment: Callable[[bytes], object] | None = None) -> Converter:
     """Takes all lines; of a chain each segment but the last goes where it belongs as soon as it is over."""
-    converter = Converter(options, put_segment=put_segment)
-    for line in log_lines.parse(lines):
-        converter.put(line)
-    converter.finish()
-    return converter
+    return convert_both(lines, options, put_segment)[0]
 
 
 def main() -> int:
@@ -473,6 +468,7 @@ def main() -> int:
     parser.add_argument("--every-access", action="store_true")
     parser.add_argument("--chain", type=int, default=0)
     parser.add_argument("--no-releases", action="store_true")
+    parser.add_argument("--child", action="store_true")
     parser.add_argument("--most", type=int, default=0)
     parser.add_argument("--calls")
     parser.add_argument("log")
@@ -480,7 +476,7 @@ def main() -> int:
     options = Options(not words.no_intent, words.every_access, words.most, words.chain, not words.no_releases)
     try:
         with open_lines(words.log) as lines:
-            converter = convert(lines, options, sys.stdout.buffer.write)
+            converter = convert_both(lines, options)[1] if words.child else convert(lines, options, sys.stdout.buffer.write)
         sys.stdout.buffer.write(converter.spell())
         sys.stdout.flush()
     except BrokenPipeError:             # who reads has found a fault

@@ -5,9 +5,11 @@
 
 and behind the words of a @store or @released the addresses to which the calls return that led there, the innermost first.
 """
+import lzma
 import re
+import sys
 from collections.abc import Callable, Iterable, Iterator
-from typing import NamedTuple
+from typing import NamedTuple, TextIO
 
 
 class Store(NamedTuple):
@@ -118,6 +120,18 @@ class End(NamedTuple):
 
 Line = (Store | Access | Fault | Flushing | Flushed | Released | InUser | Entered | Returned | Born | Table | Word | Dumped | Entry | Symbol
         | Note | End)
+
+
+def open_lines(path: str) -> TextIO:
+    """A log's lines; those of standard input where it is -."""
+    if path == "-":
+        return sys.stdin
+    return lzma.open(path, "rt") if path.endswith(".xz") else open(path)
+
+
+def read_lines(path: str) -> list[str]:
+    with open_lines(path) as file:
+        return file.readlines()
 
 
 def number(text: str) -> int:

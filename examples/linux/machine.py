@@ -40,7 +40,7 @@ TELL_SYMBOLS = "$b grep -E ' [tTwW] |__per_cpu_offset|cpu_tlbstate|current_task|
 SYMBOLS_END = "the symbols end"
 UNUSED = shutil.ignore_patterns("doc", "man", "locale", "gconv", "info", "icons", "libLLVM*", "dri")      # of Debian's packages
 WORKLOAD = "workload"
-SECOND = "second-"              # a second copy of the plugin watches a process while the first watches nested tables
+SECOND = "second-"              # a second copy of the plugin watches a process, or its child, while the first watches nested tables or it
 TAG, SECOND_TAG = "@", "%"                          # with which their lines begin
 PARTS = re.compile(r"^WRONG (\d+ parts \S+)", re.M)   # of a process: guest/parts.c has another number than one of this name
 
@@ -59,6 +59,7 @@ class Guest:
     package: str = ""               # of Debian, unpacked in the guest with all that it depends on
     nested: bool = False            # KVM is there, and the nested tables of a guest's guest are watched
     monitor: bool = False           # .. and a process too, by a second copy of the plugin
+    child: bool = False             # the address space is watched, by a second copy of the plugin, that a fork of the process makes
     files: tuple[str, ...] = ()     # more files, for its /bin
     setup: str = ""                 # lines of init before that, when the kernel's modules are inserted
     modules: tuple[str, ...] = ()   # of the kernel, to be inserted first: of our own by name (module/), others by file or folder
@@ -229,8 +230,9 @@ def plugins(memory: str, guest: Guest, kernel: Kernel) -> list[str]:
             f"rest_at={sum(REST_PLACES[each] for each in guest.rest_at.split(','))}"]
     watched = kernel.nested_settings() if guest.nested else kernel.settings()
     words = ["-plugin", ",".join([f"{OUT}/{plugin()}", *told, *watched])]
-    if guest.monitor:
-        words += ["-plugin", ",".join([f"{OUT}/{SECOND}{plugin()}", *told, *kernel.settings(), f"tag={SECOND_TAG}"])]
+    if guest.monitor or guest.child:
+        second = [*told, *kernel.settings(), f"child={int(guest.child)}", f"tag={SECOND_TAG}"]
+        words += ["-plugin", ",".join([f"{OUT}/{SECOND}{plugin()}", *second])]
     return words
 
 

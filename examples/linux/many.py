@@ -37,11 +37,13 @@ WRONG = re.compile("^WRONG|BUG:|Bad page|segfault|Oops", re.M)
 class Kind(NamedTuple):
     """Of a boot: runs that differ in this need another one."""
     is_nested: bool = False
+    child: bool = False
     package: str = ""           # of Debian, in the guest
     rest: int = 0
     rest_at: str = RESTS
     modules: tuple[str, ...] = ()
     setup: str = ""
+    options: str = ""
 
 
 @dataclass
@@ -81,7 +83,8 @@ class Run:
     def kind(self) -> "Kind":
         if isinstance(self.what, Program):
             return Kind(package=self.what.package)
-        return Kind(self.is_nested(), "", self.what.rest, self.what.rest_at, self.what.modules, self.what.setup)
+        return Kind(self.is_nested(), self.what.child, "", self.what.rest, self.what.rest_at, self.what.modules, self.what.setup,
+                    self.what.options)
 
     def commands(self, seed: int) -> list[str]:
         """What init runs, so that it is watched."""
@@ -92,7 +95,7 @@ class Run:
             return [f"/bin/workload tick {TICK} &", "t=$!", command, "$b kill $t"]
         plant = self.what
         alone = "$b taskset 1 " if plant.processors == 1 else ""
-        lines = [f"{alone}/bin/workload {plant.nested or 'live'} {seed} {plant.rounds} planted {plant.parts}"]
+        lines = [f"{alone}/bin/workload {plant.how()} {seed} {plant.rounds} planted {plant.parts}"]
         return [f"/bin/workload tick {plant.tick} &", *lines, "$b kill $!"] if plant.tick else lines
 
     def wrong(self) -> int:
@@ -134,16 +137,17 @@ class Boot:
     """One boot, for the runs that it comes to."""
 
     def __init__(self, name: str, kernel: Kernel, runs: list[Run], schedule: Schedule) -> None:
-        nested, package, rest, rest_at, modules, setup = runs[0].kind()
-        options = WITHOUT_TICKS[PROCESSORS] if nested else ""
+        nested, child, package, rest, rest_at, modules, setup, options = runs[0].kind()
+        options += WITHOUT_TICKS[PROCESSORS] if nested else ""
         makers = {run.what.files for run in runs if isinstance(run.what, Program) and run.what.files}
         files = tuple(file for make in makers for file in make(machine.OUT))
-        self.guest = machine.Guest(script(runs, schedule.seed), PROCESSORS, has_line=True, nested=nested, monitor=nested, options=options,
-                                   package=package, files=files, memory=MEMORY if package or files else 1024, rest=rest,
+        self.guest = machine.Guest(script(runs, schedule.seed), PROCESSORS, has_line=True, nested=nested, monitor=nested, child=child,
+                                   options=options, package=package, files=files, memory=MEMORY if package or files else 1024, rest=rest,
                                    rest_at=rest_at, modules=modules, setup=setup)
         self.name, self.kernel, self.runs = name, kernel, {run.name: run for run in runs}
         self.keep = ["log"] if schedule.keep_log else []
-        self.tags = [machine.TAG, machine.SECOND_TAG] if nested else [machine.TAG]
+        self.tags = [machine.TAG, machine.SECOND_TAG] if nested or child else [machine.TAG]
+        self.child = child
         self.chains: list[chains.Chain] = []
         self.begun: list[Run] = []          # in order; the last one goes on
         self.failures: list[str] = []
@@ -215,6 +219,8 @@ class Boot:
         earlier = self.chains or [None] * len(self.tags)
         self.chains = [chains.begin(path, self.kernel.place, tag, UPDATES, self.keep, before)
                        for path, tag, before in zip(paths, self.tags, earlier)]
+        if self.child:
+            chains.relate(*self.chains)
         self.begun.append(run)
 
     def take(self, lines: Iterable[str]) -> None:

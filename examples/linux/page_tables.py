@@ -1,4 +1,5 @@
 """Page tables as the stores of a log make them, and the pages that they map."""
+from collections.abc import Iterator
 from dataclasses import dataclass
 from typing import NamedTuple
 
@@ -144,3 +145,12 @@ class PageTables:
     def frames(self) -> dict[int, dict[int, int]]:
         """All tables: their words that aren't 0, by frame and index."""
         return {frame: table.words for frame, table in self.linked.items()}
+
+
+def parts_of(frame: int, count: int) -> Iterator[tuple[int, int]]:
+    """Frames as memory of the sizes of pages, the largest that fit: each a size's code and a physical address."""
+    at, end = frame * BYTES[0], (frame + count) * BYTES[0]
+    while at < end:
+        size = next(code for code in (2, 1, 0) if at % BYTES[code] == 0 and at + BYTES[code] <= end)
+        yield size, at
+        at += BYTES[size]

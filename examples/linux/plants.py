@@ -130,12 +130,35 @@ class FlushedLate:
             stub.write(each, call(each, place))
 
 
+@dataclass(frozen=True)
+class Unlocked:
+    """The function makes a call, of five arguments at most, without the lock that it holds, whose address is in %r12: it is taken again when
+    that has returned. The code for it is put where a function was that nobody calls here."""
+    function: str
+    called: str
+    place: str = "poweroff_work_func"
+
+    def plant(self, kernel: Kernel, stub: Stub) -> None:
+        begin, place = kernel.address(self.function), room(kernel, self.place, MOST_ADDED)
+        calls = Silenced(self.function, self.called).places(kernel, stub.read(begin, kernel.end(self.function) - begin), self.called)
+        # push all arguments; mov %r12, %rdi; call; pop all; call; mov %r12, %rdi; call; ret
+        code = bytes.fromhex("57565251 4150 4c89e7")
+        code += call(place + len(code), kernel.address("_raw_spin_unlock")) + bytes.fromhex("4158 595a5e5f")
+        code += call(place + len(code), kernel.address(self.called)) + bytes.fromhex("4c89e7")
+        code += call(place + len(code), kernel.address("_raw_spin_lock")) + RETURN
+        if not calls:
+            raise Missing(f"{self.function} of this kernel, {kernel.version}, doesn't call {self.called}")
+        stub.write(place, code)
+        for each in calls:
+            stub.write(each, call(each, place))
+
+
 def call(at: int, target: int) -> bytes:
     """A call of the function there, from this place."""
     return bytes([CALL]) + (target - (at + len(NOTHING))).to_bytes(4, "little", signed=True)
 
 
-Code = Replaced | Detoured | Silenced | Patched | FlushedLate
+Code = Replaced | Detoured | Silenced | Patched | FlushedLate | Unlocked
 
 
 @dataclass(frozen=True)
@@ -148,12 +171,18 @@ class Plant:
     processors: int = 1         # with one, nothing but the kernel's own flushes comes between a store and what the process does next
     tick: int = 0
     nested: str = ""            # a monitor of KVM meets it: what this does
+    child: bool = False         # a child of the process may meet it, and is watched too
     is_seen: bool = True        # by a processor, or where memory is freed: else the verdict is yes
     is_given: bool = False      # it is seen where memory is freed, so only in a chain
     rest: int = 0               # at each so many places processors rest, so that others meet what isn't flushed yet,
     rest_at: str = RESTS        # .. and which places these are
     modules: tuple[str, ...] = ()   # of the guest's kernel, as machine.module_file takes them
     setup: str = ""             # lines of init before it
+    options: str = ""           # of the kernel's command line, with one before them
+
+    def how(self) -> str:
+        """As what guest/workload.c runs the process; with a child to its exit, since a bug that both meet may end it at any time."""
+        return self.nested or ("die" if self.child else "live")
 
 
 PLANTS = {
@@ -197,7 +226,15 @@ PLANTS = {
     "migrate": Plant("compaction moves a page, and doesn't flush", (Silenced("ptep_clear_flush", "flush_tlb_mm_range"),), "compacted",
                      is_given=True),
     "fork-write": Plant("fork leaves the pages that it shares writable for the parent",
-                        (Patched("copy_page_range", bytes.fromhex("f0418027fd"), bytes.fromhex("f0418027ff")),), "cow"),
+                        (Patched("copy_page_range", bytes.fromhex("418027fd"), bytes.fromhex("418027ff")),), "cow"),
+    "fork-write-child": Plant("fork leaves the pages that it shares writable for the child",
+                              (Patched("copy_page_range", bytes.fromhex("418027fd4883e3fd"), bytes.fromhex("418027fd4883e3ff")),),
+                              "child cow", child=True),
+    "reuse": Plant("a write of a page that parent and child share doesn't copy it",
+                   # above 0x51000000 alone, as the fourth byte of an address: else no process would go on
+                   (Patched("do_wp_page", bytes.fromhex("488b5500f7c2000002000f85b4000000"),
+                            bytes.fromhex("807b1b510f84ba000000660f1f440000")),),
+                   "child cow", child=True),
     "zeros-write": Plant("the one page of zeros, which each process has, is mapped writable",
                          (Patched("__handle_mm_fault", bytes.fromhex("4981ce00020000"), bytes.fromhex("4981ce02020000")),), "zeros"),
     "no-unmap": Plant("munmap leaves the pages mapped", (Replaced("unmap_page_range", RETURN),), "threads", 5),

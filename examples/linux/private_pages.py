@@ -1,7 +1,7 @@
 """Pages that are a process's own, those of private mappings: what it writes there is seen nowhere else. So no other page of it has the
 frame of one that may be written, and after a fork none may be written until it is copied."""
 import collections
-from collections.abc import Iterator
+from collections.abc import Iterator, Mapping
 from dataclasses import dataclass, field
 
 from log_lines import Returned
@@ -26,6 +26,8 @@ class PrivatePages:
     promises: Promises                                                  # of the same process: its calls that are under way are there
     mappings: Promises = field(default_factory=Promises)                # the private ones alone, of those that calls made
     of_frame: dict[int, set[int]] = field(default_factory=lambda: collections.defaultdict(set))     # bases of small pages, by address
+    shared: dict[int, int] = field(default_factory=dict)                # while a fork makes this one: frames of the parent's pages, by base
+    relatives: list["PrivatePages"] = field(default_factory=list)       # of the process that made this one by a fork, or of its child
 
     def changed(self, change: Change) -> None:
         for page, act in ((change.before, set.discard), (change.after, set.add)):
@@ -56,9 +58,28 @@ class PrivatePages:
         return any(not self.may_change(each, task) for each in self.mappings.within(base, base + BYTES[0]))
 
     def has_anothers_frame(self, base: int, page: Page, task: int) -> bool:
-        """It may be written, and what is written there shows elsewhere."""
-        others = self.of_frame[page.physical] - {base} if page.size == 0 and page.rights & WRITE else ()
-        return bool(others) and self.is_private(base, task) and any(self.is_private(each, task) for each in others)
+        """It may be written, and what is written there shows elsewhere, here or in a relative."""
+        if page.size or not page.rights & WRITE or not self.is_private(base, task):
+            return False
+        return any(each.is_private(other, task) for each in (self, *self.relatives) for other in each.of_frame.get(page.physical, ())
+                   if each is not self or other != base)
+
+    def inherit(self, parent: "PrivatePages", pages: Mapping[int, Page]) -> None:
+        """A fork begins to make this address space of that one, which has these pages."""
+        self.mappings.ranges = [each._replace(since=0) for each in parent.mappings.ranges]
+        self.shared = {base: page.physical for base, page in pages.items() if page.size == 0}
+        self.relatives.append(parent)
+        parent.relatives.append(self)
+
+    def left_writable(self, pages: Mapping[int, Page]) -> list[int]:
+        """The fork is over: which of its private pages may be written, and have the frames that they have in the parent."""
+        shared, self.shared = self.shared, {}
+        return [base for base, frame in sorted(shared.items()) if base in pages and pages[base].physical == frame
+                and pages[base].rights & ~UNWRITTEN and self.mappings.within(base, base + BYTES[0])]
+
+    def leave(self) -> None:
+        """What it maps isn't known any more."""
+        self.mappings.ranges = []
 
     def shared_by_fork(self, task: int) -> Iterator[tuple[int, int]]:
         """From where to where a fork that has returned has made all pages the child's too."""

@@ -27,6 +27,7 @@ class Workload:
     package: str = ""
     nested: bool = False
     monitor: bool = False
+    child: bool = False
     memory: int = 1024          # MiB
     file: Callable[[], str] | None = None       # makes a file for its /bin: the path here
     chain: int = 0              # it is too long for a trace, or has a start: updates in a segment of its chain
@@ -40,7 +41,7 @@ class Workload:
         command = f"/bin/workload {self.command.replace('SEED', str(seed))}"
         ticking = f"/bin/workload tick {self.tick} &\n" if self.tick else ""
         return Guest(ticking + self.begin + command, self.processors, self.levels, self.isolated, self.rest, self.rest_at, self.memory,
-                     plant.code if plant else (), self.package, self.nested, self.monitor, (self.file(),) if self.file else (),
+                     plant.code if plant else (), self.package, self.nested, self.monitor, self.child, (self.file(),) if self.file else (),
                      modules=self.modules, options=self.options, maps=self.maps)
 
 
@@ -62,6 +63,8 @@ WORKLOADS = {
                       "live SEED 5 given lazy lazy-large equal compacted", 3, 50, chain=1000),
     "fork": Workload("the address space that fork makes of one with 1,000 pages, to the child's exit, 2 processors",
                      "fork SEED 1000", 2, 50),
+    "family": Workload("a process that forks, and its child, until each has copied what they share, as two chains, 2 processors",
+                       "die SEED 5 child cow", 2, 50, child=True, chain=1000),
     "busybox": Workload("a shell of busybox with pipes, from exec to exit, 2 processors",
                         "exec /bin/busybox sh -c '/bin/busybox seq 1 2000 | /bin/busybox sort -r | /bin/busybox md5sum'", 2, 50),
     "python": Workload("Debian's Python, with threads and a fork, from exec to exit, 2 processors",
@@ -98,10 +101,10 @@ WORKLOADS = {
 
 def planted(plant: Plant) -> Workload:
     """The process that meets a planted bug; it waits for it when it runs already."""
-    how, is_pair = plant.nested or "live", plant.nested == "pair"
-    return Workload(plant.what, f"{how} SEED {plant.rounds} planted {plant.parts}", plant.processors, plant.tick, nested=bool(plant.nested),
-                    monitor=is_pair, chain=1000 if is_pair or plant.is_given else 0,
-                    options=WITHOUT_TICKS[plant.processors] if plant.nested else "", rest=plant.rest, rest_at=plant.rest_at,
+    is_pair = plant.nested == "pair"
+    return Workload(plant.what, f"{plant.how()} SEED {plant.rounds} planted {plant.parts}", plant.processors, plant.tick, nested=bool(plant.nested),
+                    monitor=is_pair, child=plant.child, chain=1000 if is_pair or plant.child or plant.is_given else 0,
+                    options=plant.options + (WITHOUT_TICKS[plant.processors] if plant.nested else ""), rest=plant.rest, rest_at=plant.rest_at,
                     modules=plant.modules, begin=plant.setup)
 
 

@@ -2,7 +2,7 @@
 import convert
 from convert import Options
 from counting import check
-from linux_releases import BEGUN, KEPT, OTHERS, PC, SEEN, UNMAPPED, check_verdict, converted, judged
+from linux_releases import BEGUN, KEPT, OTHERS, PC, SEEN, START, UNMAPPED, check_verdict, converted, judged
 from promises import MADVISE, MMAP, MREMAP, MUNMAP
 
 ERROR = (1 << 64) - 12
@@ -76,9 +76,68 @@ def check_frames() -> None:
         check_verdict(f"as second page {name}", log, "segments 1")
 
 
+# A child's tables, whose root is frame 0x20; the page at 0x5000 comes by the parent's store
+CHILD_TABLES = """@born 2 20
+@table 20 4
+@table 21 3
+@table 22 2
+@table 23 1
+""" + "".join(f"@store 0 a0 0 {PC} {frame:x} 0 0 {frame + 1:x}007\n" for frame in (0x20, 0x21, 0x22))
+
+
+def stored_by(task: str, frame: int, before: int, after: int) -> str:
+    return f"@store 1 {task} 1 {PC} {frame:x} 5 {before:x} {after:x}\n"
+
+
+def of_child(lines: str) -> str:
+    return "".join(convert.CHILD + line[1:] for line in lines.splitlines(keepends=True))
+
+
+def both(parent: str, child: str, behind: str = "") -> tuple[str, str]:
+    """What is said of a process that has a page when recording begins, and does this first, and of its child."""
+    lines = (START + parent + of_child(child) + behind).splitlines(keepends=True)
+    said = [judged(each.spell()) for each in convert.convert_both(lines, Options(chain=65000))]
+    check("both auditors agree on a family", all(first == second for first, second in said), said)
+    return said[0][0], said[1][0]
+
+
+def check_children() -> None:
+    """After a fork no private page of the child may be written that has the frame that it has in the parent."""
+    entered_fork, protect = entered(FORK), stored_by("a0", 0x13, 0x9067, 0x9065) + "@flushed 0 a0 5000 6000\n"
+    write, read = "@access 1 b0 u w 5000 9000 401000\n", "@access 1 b0 u r 5000 9000 401000\n"
+    copied = "@fault 1 0007 5000\n" + stored_by("b0", 0x23, 0x9065, 0) + "@flushed 1 b0 5000 6000\n" + stored_by("b0", 0x23, 0, 0x8067)
+    writable, read_only = (CHILD_TABLES + stored_by("a0", 0x23, 0, word) for word in (0x9067, 0x9065))
+    wrong, right = "segment 0/no 24 Stale 4", "segments 1"
+    for name, mapping, child, verdict in (
+            ("a page that it may write", mapped(PRIVATE), writable + write, wrong),
+            ("the same, which it reads", mapped(PRIVATE), writable + read, "segment 0/no 17 Differs 0 0x5000"),
+            ("a page that it may not write", mapped(PRIVATE), read_only + read, right),
+            ("a page that it copies", mapped(PRIVATE), read_only + copied + write.replace("9000", "8000"), right),
+            ("a page that was copied while it was forked", mapped(PRIVATE), writable.replace("9067", "8067") + write.replace("9000", "8000"),
+             right),
+            ("a shared page", mapped(SHARED), writable + write, right), ("a page of which nothing is known", "", writable + write, right),
+            ("MADV_DONTFORK", mapped(PRIVATE) + call(MADVISE, 0x5000, 4096, 10), writable + write, right)):
+        said = both(mapping + entered_fork + protect, child, returned(FORK, result=77))
+        check(f"a child with {name} is judged {verdict}", said == (right, verdict), said)
+    reused = read_only + read + "@fault 1 0007 5000\n" + stored_by("b0", 0x23, 0x9065, 0x9067) + write
+    said = both(mapped(PRIVATE) + entered_fork + protect, reused)
+    check("a child that writes where the parent reads", said[0] == right and said[1].startswith("segment 0/no 24 Stale "), said)
+    left = protect + stored_by("a0", 0x13, 0x9065, 0) + "@flushed 0 a0 5000 6000\n"
+    said = both(mapped(PRIVATE) + entered_fork + left, reused)
+    check("a child that writes what the parent has no more", said == (right, right), said)
+    again = "@access 2 a0 u w 5000 9000 401000\n"
+    said = both(mapped(PRIVATE) + entered_fork + protect, read_only + read,
+                returned(FORK, result=77) + "@fault 2 0007 5000\n" + stored_by("a0", 0x13, 0x9065, 0x9067) + again)
+    check("a parent that writes where the child reads", said[0].startswith("segment 0/no 24 Stale ") and said[1] == right, said)
+
+
 # Logs that were kept, each of a bug that no access shows by itself; what is said of each as a chain, and what without promises
 LOGS = (("planted-fork-write", "segment 0/no 24 Stale 1918", "segments 2"),
         ("planted-zeros-write", "segment 0/no 24 Stale 1006", "segments 1"))
+
+# .. of a process and its child
+OF_BOTH = (("planted-fork-write-child", ("segments 2", "segment 0/no 24 Stale 388")),
+           ("planted-reuse", ("segment 1/no 24 Stale 6", "segment 0/no 24 Stale 260")), ("family", ("segments 2", "segments 1")))
 
 
 def check_kept() -> None:
@@ -87,3 +146,7 @@ def check_kept() -> None:
         for what, intent, expected in (("with", True, verdict), ("without", False, without)):
             said = judged(convert.convert(lines, Options(chain=1000, intent=intent)).spell())
             check(f"{name} {what} promises is judged {expected}", said == (expected, expected), said)
+    for name, verdicts in OF_BOTH:
+        both_chains = convert.convert_both(convert.read_lines(f"{KEPT}/{name}.log.xz"), Options(chain=1000))
+        said = [judged(each.spell()) for each in both_chains]
+        check(f"{name} and its child are judged {verdicts}", said == [(each, each) for each in verdicts], said)

@@ -4,6 +4,7 @@
 #include "driver.h"
 #include "given.h"
 #include "history.h"
+#include "marks.h"
 
 #include <errno.h>
 #include <fcntl.h>
@@ -470,19 +471,16 @@ static void planted(void)
 	close(line);
 }
 
-static const struct {
-	const char *name;
-	void (*run)(void);
-} parts[] = {
-	{ "threads", threads }, { "crowd", crowd }, { "shootdown", shootdown }, { "copied", copied }, { "cow", cow }, { "huge", huge },
-	{ "moved", moved }, { "files", files }, { "merged", merged }, { "reclaimed", reclaimed }, { "emptied", emptied },
-	{ "kinds", kinds }, { "planted", planted }, { "given", give_pages }, { "lazy", give_lazily }, { "lazy-large", give_large_lazily },
-	{ "equal", give_equal_pages }, { "compacted", give_by_compaction }, { "zeros", read_zeros }, { "driver", unmap_drivers_pages },
-	{ "driver-frees", let_driver_free_pages }, { "driver-frees-high", let_driver_free_high_pages }, { "driver-fails", let_driver_fail },
-	{ "truncated", move_what_is_truncated }, { "truncated-tables", move_tables_of_what_is_truncated },
-	{ "collapsed", move_what_is_collapsed }, { "shared-tables", unmap_what_shares_a_table }, { "dropped-twice", drop_twice },
-	{ "moved-large", move_large_pages },
-	{ "soft-dirty", clear_soft_dirty }, { "read-by-others", reclaim_what_is_read }, { "reclaimed-by-another", protect_what_is_reclaimed },
+static const struct { const char *name; void (*run)(void); } parts[] = {
+	{ "threads", threads }, { "crowd", crowd }, { "shootdown", shootdown }, { "copied", copied }, { "cow", cow }, { "huge", huge }, { "moved", moved },
+	{ "files", files }, { "merged", merged }, { "reclaimed", reclaimed }, { "emptied", emptied }, { "kinds", kinds }, { "planted", planted },
+	{ "child", watch_child }, { "given", give_pages }, { "lazy", give_lazily }, { "lazy-large", give_large_lazily }, { "equal", give_equal_pages },
+	{ "compacted", give_by_compaction }, { "zeros", read_zeros }, { "driver", unmap_drivers_pages }, { "driver-frees", let_driver_free_pages },
+	{ "driver-frees-high", let_driver_free_high_pages }, { "driver-fails", let_driver_fail },
+	{ "truncated", move_what_is_truncated }, { "truncated-tables", move_tables_of_what_is_truncated }, { "collapsed", move_what_is_collapsed },
+	{ "moved-large", move_large_pages }, { "shared-tables", unmap_what_shares_a_table },
+	{ "dropped-twice", drop_twice }, { "soft-dirty", clear_soft_dirty }, { "read-by-others", reclaim_what_is_read },
+	{ "reclaimed-by-another", protect_what_is_reclaimed },
 };
 
 /* Where two parts have one name, none of them runs. */

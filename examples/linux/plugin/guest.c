@@ -36,7 +36,7 @@ static const struct {
 	{ "entry", &guest.entry }, { "entry_end", &guest.entry_end }, { "text", &guest.text }, { "text_end", &guest.text_end },
 	{ "page_bytes", &guest.page_bytes }, { "page_flags", &guest.page_flags }, { "page_type", &guest.page_type },
 	{ "table_mask", &guest.table_mask }, { "table_kind", &guest.table_kind }, { "rest", &guest.rest },
-	{ "rest_at", &guest.rest_at }, { "nested", &guest.nested }, { "nested_end", &guest.nested_end },
+	{ "rest_at", &guest.rest_at }, { "child", &guest.child }, { "nested", &guest.nested }, { "nested_end", &guest.nested_end },
 };
 
 int guest_set(const char *name, const char *value)

@@ -25,6 +25,7 @@ struct guest {
 	uint64_t table_mask, table_kind; /* and what of that word is what, while the frame is a page table */
 	uint64_t rest;         /* 0, or: at each so many places QEMU goes to the next processor, */
 	uint64_t rest_at;      /* .. and of which kinds these are (rests.h) */
+	uint64_t child;        /* 1: nothing is watched but the address space that a fork makes */
 	uint64_t nested, nested_end;   /* 0, or the function of KVM that loads a guest's nested tables: these are watched, no process */
 };
 

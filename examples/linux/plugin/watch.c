@@ -7,6 +7,7 @@
  * With the setting `nested` it is no process's address space but the memory of a guest in the guest, which the guest's KVM maps by nested
  * tables: stores to these are logged, accesses of that guest, KVM's flushes, frames that are freed, and that the task that runs it has left
  * the kernel. Two copies of the plugin watch both at once; with the setting `tag` the lines of one begin with another character than @.
+ * With the setting `child` a copy watches nothing but the address space that a fork makes, while the other one watches the parent's.
  *
  * Lines, numbers in hexadecimal but for levels, processors and counts:
  *
@@ -49,7 +50,7 @@
 #include <string.h>
 
 #define MARKS 0x6e7276730000u /* the page of marks: what the guest stores there is a word to the plugin */
-enum mark { MARK_NEXT = 1, MARK_END = 2, MARK_WHEN_EMPTY = 3, MARK_HERE = 4, MARK_AGAIN = 5 };
+enum mark { MARK_NEXT = 1, MARK_END = 2, MARK_WHEN_EMPTY = 3, MARK_HERE = 4, MARK_AGAIN = 5, MARK_CHILD = 6 };
 enum later_mark { MARK_LATER = 0x100, MARK_CHOSEN = 0x200 };
 #define NESTED_CODE 0x100000u /* the guest in the guest runs below, and no process does */
 #define NESTED_ROOT 0xb0      /* of the page that controls it (AMD's VMCB): the address of its nested tables */
@@ -183,7 +184,7 @@ static void word_stored(unsigned cpu, uint64_t physical, uint64_t pc)
 		owing_add(task, change.level > 1 ? NOWHERE : physical);
 	if (own)
 		rests_stored(&change);
-	if (ends_when_empty && change.frame == tables_root() && tables_is_empty())
+	if ((ends_when_empty || guest.child) && change.frame == tables_root() && tables_is_empty())
 		end("empty");
 }
 
@@ -224,11 +225,13 @@ static void marked(unsigned cpu, qemu_plugin_meminfo_t info, uint64_t address)
 	uint64_t value = where ? guest_word(qemu_plugin_hwaddr_phys_addr(where)) : 0;
 
 	say("@marked %u %" PRIx64 " %" PRIx64 "\n", cpu, guest_task(cpu), value);
+	if (guest.child)
+		value = value == MARK_CHILD ? MARK_NEXT : value == MARK_AGAIN ? value : 0;
 	if ((value == MARK_NEXT || value >= MARK_LATER) && state == WAITING && !chosen) {
 		state = ARMED;
+		asking_task = value == MARK_NEXT ? guest_task(cpu) : 0;
 		is_later = value >= MARK_CHOSEN;
 		earlier = value == MARK_NEXT ? 0 : value & (MARK_LATER - 1);
-		asking_task = value == MARK_NEXT ? guest_task(cpu) : 0;
 	}
 	if (value == MARK_HERE && state == WAITING && !guest.nested)
 		begin_process(chosen ? chosen : guest_loaded(cpu));
