@@ -99,6 +99,18 @@ def check_printed() -> None:
           and " | 5.10.24-1 | " in lines[6], lines)
 
 
+def check_series() -> None:
+    """Without names those bugs are left out that another kernel has."""
+    runs, table = [Run(name, what) for name, what in {**PLANTS, **with_twins()}.items()], loaded("table")
+    with contextlib.redirect_stderr(io.StringIO()) as printed:
+        left = [{run.name for run in table.of_kernel(runs, version)} for version in ("6.1.0-57-cloud-amd64", "6.12.117")]
+    names = {run.name for run in runs}
+    check("a bug of another kernel is left out", names - left[0] == {"CVE-2024-50066-sound", "CVE-2024-50066"}, names - left[0])
+    check("and those that have no kernel of their own are not", left[1] == {*PLANTS, "CVE-2024-50066-sound", "CVE-2024-50066"}, left[1])
+    check("and named", printed.getvalue().startswith("# not of Linux 6.1.0-57-cloud-amd64: CVE-2024-50066-sound, CVE-2024-50066\n"),
+          printed.getvalue())
+
+
 def check_times() -> None:
     """Each run so often; in how many it was found is counted, and the first with a fault stays."""
     seeds: list[int] = []

@@ -9,6 +9,9 @@ void unmap_drivers_pages(void);
 void let_driver_free_pages(void);
 void let_driver_free_high_pages(void);
 
+/* The driver moves pages to other frames, while another thread drops them. */
+void let_driver_move_pages(void);
+
 /* The driver maps half of its pages, fails, and frees them all. */
 void let_driver_fail(void);
 

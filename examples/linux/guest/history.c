@@ -243,6 +243,30 @@ void move_large_pages(void)
 	close(file);
 }
 
+/* Another mapping writes to the page a word as a table has it: it may not lead to memory. */
+void move_device_memory(void)
+{
+	int file = open("/dev/dax0.0", O_RDWR | O_CLOEXEC);
+	uint64_t word = MIB | 0x67;
+
+	if (file < 0)
+		note("/dev/dax0.0");
+	for (unsigned round = 0; round < rounds && file >= 0; round++) {
+		volatile uint64_t *at = (void *)map_at(0xb00000000, TABLE, READ_WRITE, MAP_SHARED, file);
+		volatile uint64_t *other_map = (void *)map_at(0xb40000000, TABLE, READ_WRITE, MAP_SHARED, file), *moved;
+
+		at[0] = other_map[0] = 0;
+		moved = mremap((void *)at, TABLE, TABLE, MREMAP_MAYMOVE | MREMAP_FIXED, (void *)0xb80000000);
+		other_map[0] = word;
+		if ((void *)moved == MAP_FAILED || faults((volatile char *)moved, 0) || moved[0] != word)
+			note("a page that was moved");
+		other_map[0] = 0;
+		munmap((void *)moved, TABLE);
+		munmap((void *)other_map, TABLE);
+	}
+	close(file);
+}
+
 /* ---- pages that are written, reclaimed, dropped ---- */
 
 void clear_soft_dirty(void)

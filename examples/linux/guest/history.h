@@ -17,6 +17,9 @@ void unmap_what_shares_a_table(void);
 /* Large pages (hugetlbfs) are moved, the first of which isn't there. */
 void move_large_pages(void);
 
+/* A large page of a device's memory is moved. */
+void move_device_memory(void);
+
 /* The kernel is asked to note again which pages are written (soft-dirty). */
 void clear_soft_dirty(void);
 

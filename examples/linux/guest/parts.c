@@ -476,9 +476,9 @@ static const struct { const char *name; void (*run)(void); } parts[] = {
 	{ "files", files }, { "merged", merged }, { "reclaimed", reclaimed }, { "emptied", emptied }, { "kinds", kinds }, { "planted", planted },
 	{ "child", watch_child }, { "given", give_pages }, { "lazy", give_lazily }, { "lazy-large", give_large_lazily }, { "equal", give_equal_pages },
 	{ "compacted", give_by_compaction }, { "zeros", read_zeros }, { "driver", unmap_drivers_pages }, { "driver-frees", let_driver_free_pages },
-	{ "driver-frees-high", let_driver_free_high_pages }, { "driver-fails", let_driver_fail },
+	{ "driver-frees-high", let_driver_free_high_pages }, { "driver-fails", let_driver_fail }, { "driver-moves", let_driver_move_pages },
 	{ "truncated", move_what_is_truncated }, { "truncated-tables", move_tables_of_what_is_truncated }, { "collapsed", move_what_is_collapsed },
-	{ "moved-large", move_large_pages }, { "shared-tables", unmap_what_shares_a_table },
+	{ "moved-large", move_large_pages }, { "moved-device", move_device_memory }, { "shared-tables", unmap_what_shares_a_table },
 	{ "dropped-twice", drop_twice }, { "soft-dirty", clear_soft_dirty }, { "read-by-others", reclaim_what_is_read },
 	{ "reclaimed-by-another", protect_what_is_reclaimed },
 };

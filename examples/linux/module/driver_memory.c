@@ -1,11 +1,14 @@
 /*
  * A module for the guest's kernel: a driver that gives processes pages of its own, which aren't the kernel's to count (VM_PFNMAP). Its file is
  * /dev/nrvs_driver, in which they are again and again. An ioctl takes them back: the driver unmaps them from whoever maps them, and frees
- * them; with a number other than 0 it looks for maps from an offset on alone. From the offset FAILING on the pages of a mapping are mapped at
- * once, but there is no memory for a table: mmap fails behind those for which there is one, and the driver frees all of them.
+ * them; with 1 it looks for maps from an offset on alone. From the offset FAILING on the pages of a mapping are mapped at once, but there is
+ * no memory for a table: mmap fails behind those for which there is one, and the driver frees all of them. With MOVE the pages that a process
+ * has from an address on are moved to other frames, as drivers do of devices that have memory.
  */
 #include <linux/fs.h>
+#include <linux/highmem.h>
 #include <linux/kprobes.h>
+#include <linux/migrate.h>
 #include <linux/miscdevice.h>
 #include <linux/mm.h>
 #include <linux/module.h>
@@ -13,6 +16,7 @@
 #include <linux/version.h>
 
 #define PAGES 8
+#define MOVE 2
 #define FAILING (1ul << (32 - PAGE_SHIFT)) /* in pages */
 
 static struct page *pages[PAGES];
@@ -99,7 +103,46 @@ static long take_back(struct file *file, unsigned int is_part, unsigned long off
 	return 0;
 }
 
-static const struct file_operations operations = { .owner = THIS_MODULE, .mmap = map, .unlocked_ioctl = take_back };
+static void copy(struct migrate_vma *range)
+{
+	struct page *to;
+
+	for (unsigned long k = 0; k < range->npages; k++) {
+		to = range->src[k] & MIGRATE_PFN_MIGRATE ? alloc_page(GFP_HIGHUSER) : NULL;
+		if (!to)
+			continue;
+		lock_page(to);
+		copy_highpage(to, migrate_pfn_to_page(range->src[k]));
+		range->dst[k] = migrate_pfn(page_to_pfn(to));
+	}
+}
+
+static long move(unsigned long begin)
+{
+	unsigned long from[PAGES] = { 0 }, to[PAGES] = { 0 };
+	struct migrate_vma range = { .src = from, .dst = to, .start = begin, .end = begin + PAGES * PAGE_SIZE,
+		.flags = MIGRATE_VMA_SELECT_SYSTEM };
+	int error = -EFAULT;
+
+	mmap_read_lock(current->mm);
+	range.vma = vma_lookup(current->mm, begin);
+	if (range.vma && range.end <= range.vma->vm_end)
+		error = migrate_vma_setup(&range);
+	if (!error) {
+		copy(&range);
+		migrate_vma_pages(&range);
+		migrate_vma_finalize(&range);
+	}
+	mmap_read_unlock(current->mm);
+	return error;
+}
+
+static long control(struct file *file, unsigned int what, unsigned long where)
+{
+	return what == MOVE ? move(where) : take_back(file, what, where);
+}
+
+static const struct file_operations operations = { .owner = THIS_MODULE, .mmap = map, .unlocked_ioctl = control };
 static struct miscdevice device = { .minor = MISC_DYNAMIC_MINOR, .name = "nrvs_driver", .fops = &operations, .mode = 0666 };
 
 module_misc_device(device);
