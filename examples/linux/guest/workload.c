@@ -117,8 +117,7 @@ static int monitor_watched(const char *what, char **names)
 
 	for (; *names; names++)
 		run_part(*names);
-	if (!strcmp(what, "pair"))
-		say(MARK_HERE);
+	say(MARK_HERE); /* to a plugin that watches the monitor itself; the other one waits for its machine */
 	say(MARK_NEXT);
 	if (!strcmp(what, "monitor"))
 		others = run_monitor(seed, rounds);

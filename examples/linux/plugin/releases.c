@@ -48,17 +48,22 @@ static int is_adjacent(unsigned cpu, uint64_t task, uint64_t frame)
 	return run.count && run.cpu == cpu && run.task == task && (frame == run.frame + run.count || frame + 1 == run.frame);
 }
 
-void releases_stored(unsigned cpu, uint64_t address, uint64_t pc)
+static int is_root(uint64_t frame)
+{
+	return !guest.nested && frame == guest_root() - guest.isolated;
+}
+
+int releases_stored(unsigned cpu, uint64_t address, uint64_t pc)
 {
 	uint64_t frame = guest_frame_of(address), task = guest_task(cpu);
 
 	if (frame >= guest_frames() || !had[frame])
-		return;
+		return is_root(frame);
 	had[frame] = 0;
 	if (is_adjacent(cpu, task, frame)) {
 		run.frame = frame < run.frame ? frame : run.frame;
 		run.count++;
-		return;
+		return 0;
 	}
 	say_waiting();
 	callers_tell(cpu);
@@ -68,4 +73,5 @@ void releases_stored(unsigned cpu, uint64_t address, uint64_t pc)
 	run.frame = frame;
 	run.count = 1;
 	say_later(tell);
+	return 0;
 }

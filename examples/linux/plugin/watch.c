@@ -307,8 +307,8 @@ static void on_call(unsigned cpu, qemu_plugin_meminfo_t info, uint64_t address, 
 static void on_release(unsigned cpu, qemu_plugin_meminfo_t info, uint64_t address, void *pc)
 {
 	cpu = processor_that_runs(cpu);
-	if (state == WATCHING && qemu_plugin_mem_is_store(info))
-		releases_stored(cpu, address, (uint64_t)pc);
+	if (state == WATCHING && qemu_plugin_mem_is_store(info) && releases_stored(cpu, address, (uint64_t)pc))
+		end("freed");
 	kernel_accessed(cpu, info, address, (uint64_t)pc);
 }
 
