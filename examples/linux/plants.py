@@ -1,4 +1,5 @@
 """Bugs that are planted in the guest's kernel: calls or functions of its code that are overwritten while it runs."""
+import re
 import runpy
 from dataclasses import dataclass
 
@@ -93,18 +94,21 @@ class Silenced:
 
 @dataclass(frozen=True)
 class Patched:
-    """The function has other bytes at the one place where these are."""
+    """The function has other bytes at the one place where these are, some of which may be any."""
     function: str
     before: bytes
     after: bytes
+    any_at: tuple[int, ...] = ()    # their places: they differ from kernel to kernel
 
     def plant(self, kernel: Kernel, stub: Stub) -> None:
         begin = kernel.address(self.function)
         code = stub.read(begin, kernel.end(self.function) - begin)
-        if code.count(self.before) != 1:
-            raise Missing(f"{self.function} of this kernel, {kernel.version}, has {self.before.hex()} {code.count(self.before)} times: "
+        pattern = b"".join(b"." if at in self.any_at else re.escape(self.before[at:at + 1]) for at in range(len(self.before)))
+        places = [found.start() for found in re.finditer(pattern, code, re.DOTALL)]
+        if len(places) != 1:
+            raise Missing(f"{self.function} of this kernel, {kernel.version}, has {self.before.hex()} {len(places)} times: "
                           "another compiler made it, or its source is another")
-        stub.write(begin + code.index(self.before), self.after)
+        stub.write(begin + places[0], self.after)
 
 
 @dataclass(frozen=True)

@@ -138,6 +138,8 @@ def check_code() -> None:
     kernel, memory = Kernel("6", "", [], names, None), Memory(begin, code)
     Patched("outer", b"\xc1\xeb", b"\xc1\xfb").plant(kernel, memory)
     check("bytes are replaced", memory.code[5:9] == b"\x48\xc1\xfb\x0c")
+    Patched("outer", b"\xc1\xaa\x0c", b"\xc1\xeb\x0c", (1,)).plant(kernel, memory)
+    check("one of which may be any", memory.code[5:9] == b"\x48\xc1\xeb\x0c")
     said = missing(Patched("outer", bytes(2), b"").plant, kernel, memory)
     check("where they are more than once that is named", "outer of this kernel, 6, has 0000 5 times" in said, said)
     memory = Memory(begin, code + bytes(place + 64 - begin - len(code)))
