@@ -92,7 +92,7 @@ class Run:
             command = self.what.command.replace("WORKLOAD", "/bin/workload")
             if self.what.process:
                 command = f"($b sleep {MINUTE}; $b killall -q {self.what.process}) &\ne=$!\n{command}\n$b kill $e"
-            return [f"/bin/workload tick {TICK} &", "t=$!", command, "$b kill $t"]
+            return [*self.what.before.splitlines(), f"/bin/workload tick {TICK} &", "t=$!", command, "$b kill $t"]
         plant = self.what
         alone = "$b taskset 1 " if plant.processors == 1 else ""
         lines = [f"{alone}/bin/workload {plant.how()} {seed} {plant.rounds} planted {plant.parts}"]
@@ -131,6 +131,7 @@ class Schedule:
     seed: int
     times: int = 0          # each so often; 0: once, and again with other seeds where a bug was missed, some times at most
     keep_log: bool = False
+    patience: int = PATIENCE
 
 
 class Boot:
@@ -145,7 +146,7 @@ class Boot:
                                    options=options, package=package, files=files, memory=MEMORY if package or files else 1024, rest=rest,
                                    rest_at=rest_at, modules=modules, setup=setup)
         self.name, self.kernel, self.runs = name, kernel, {run.name: run for run in runs}
-        self.keep = ["log"] if schedule.keep_log else []
+        self.keep, self.patience = ["log"] if schedule.keep_log else [], schedule.patience
         self.tags = [machine.TAG, machine.SECOND_TAG] if nested or child else [machine.TAG]
         self.child = child
         self.chains: list[chains.Chain] = []
@@ -188,8 +189,8 @@ class Boot:
             elif len(ended) > over:
                 self.restore(before)
                 self.runs[ended[-1]].seconds, before, began = time.monotonic() - began, [], time.monotonic()
-            elif time.monotonic() - began > PATIENCE:
-                self.failures.append(f"it didn't end in {PATIENCE} seconds")
+            elif time.monotonic() - began > self.patience:
+                self.failures.append(f"it didn't end in {self.patience} seconds")
                 qemu.kill()
             if len(asked) > planted or len(ended) > over:
                 line.sendall(b"\n")
@@ -233,7 +234,7 @@ class Boot:
 
     def record(self) -> list[Run]:
         """The runs that were begun; of the last one it may be said that it didn't end."""
-        machine.record(self.name, self.guest, self.kernel, PATIENCE * len(self.runs), self.take, self.attend)
+        machine.record(self.name, self.guest, self.kernel, self.patience * len(self.runs), self.take, self.attend)
         parts = re.split(r"^RUN (\S+)\s*$", self.text(), flags=re.M)
         for name, said in zip(parts[1::2], parts[2::2]):
             self.runs[name].guest = said.replace("\r", "")

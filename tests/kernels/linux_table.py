@@ -1,7 +1,9 @@
 """Tests of examples/linux/table, for tests/linux: what it prints, and runs of one boot that are parted from a log."""
 import collections
+import contextlib
 import importlib.machinery
 import importlib.util
+import io
 import os
 import re
 import sys
@@ -56,6 +58,36 @@ def check_printed() -> None:
                                                                                                               accesses=3), 4.4)])
     check("a row of a program", programs[2].endswith(" | 4 | 1,002 | 3 | `segments 2`, met 0/0/0/0 |"), programs[2])
     check("a row of the table", row == "| `found` | a <bug> | `segment 1; no 24 Stale 5` | first < second | 1 | 2 |", row)
+    check_for_machines(table)
+
+
+def said_by(table: ModuleType, *words: str) -> tuple[int, str]:
+    """What the command ends with and prints, where each run with a bug is a no and each other one a yes."""
+    def recorded(_: Kernel, runs: list[Run], __: Schedule) -> None:
+        for each in runs:
+            each.verdicts = ["segment 0; no 24 Stale 1" if isinstance(each.what, Plant) and each.what.is_seen else "segments 3"]
+
+    printed = io.StringIO()
+    with mock.patch.object(sys, "argv", ["table", *words]), mock.patch.object(table.explain, "check_program"), \
+            mock.patch.object(table.chains, "reads_chains", return_value=True), mock.patch.object(table.machine, "kernel"), \
+            mock.patch.object(table.many, "record", recorded), contextlib.redirect_stdout(printed):
+        return table.main(), printed.getvalue()
+
+
+def check_for_machines(table: ModuleType) -> None:
+    """Programs, and bugs of a file whose names a pattern names, as lines and as a file for machines."""
+    plants = ("--history", "--plants", f"{LINUX}/source_bugs.py")
+    with tempfile.TemporaryDirectory() as folder:
+        for name, words, names in (("programs", ("--programs", "sqlite", "java-*"), ["sqlite", "java-serial", "java-g1", "java-z"]),
+                                   ("history", (*plants, "source-912*"), ["source-912efa17e512-sound", "source-912efa17e512"])):
+            status, text = said_by(table, *words, "--tap", "--junit", f"{folder}/said.xml")
+            found = [line.partition(" - ")[2].partition(":")[0] for line in text.splitlines() if line.startswith("ok ")]
+            suite = xml.etree.ElementTree.parse(f"{folder}/said.xml").getroot()
+            check(f"a table of {name} for machines", (status, found, suite.get("name"), [case.get("name") for case in suite])
+                  == (0, names, name, names), (status, text))
+    with contextlib.redirect_stderr(io.StringIO()) as errors, contextlib.suppress(SystemExit):
+        said_by(table, *plants, "source-9127*")
+    check("a pattern that names nothing is an error", "no source-9127*; there are" in errors.getvalue(), errors.getvalue())
 
 
 def check_script() -> None:
@@ -70,6 +102,8 @@ def check_script() -> None:
     programs = [Run(name, PROGRAMS[name]).commands(7) for name in ("transhuge-stress", "sqlite")]
     check("a test is ended after a minute", "sleep 60; $b killall -q transhuge-stres)" in programs[0][2] and
           programs[0][2].splitlines()[2:] == ["/bin/workload exec /bin/transhuge-stress", "$b kill $e"], programs[0])
+    database = Run("postgres", PROGRAMS["postgres"]).commands(7)
+    check("a database is made before that", database.index("fi") < database.index("t=$!") and "initdb" in database[3], database)
     check("and sqlite ends by itself", programs[1][2].startswith("/bin/workload exec /usr/bin/sqlite3"), programs[1])
 
 
