@@ -43,6 +43,7 @@ WORKLOAD = "workload"
 SECOND = "second-"              # a second copy of the plugin watches a process, or its child, while the first watches nested tables or it
 TAG, SECOND_TAG = "@", "%"                          # with which their lines begin
 PARTS = re.compile(r"^WRONG (\d+ parts \S+)", re.M)   # of a process: guest/parts.c has another number than one of this name
+UNANSWERED = "WRONG no answer of the recorder"
 
 
 @dataclass(frozen=True)
@@ -203,7 +204,9 @@ def text_of(path: str) -> str:
 
 
 def wrong_parts(serial: str) -> str:
-    """What is wrong where a part of the process isn't there, or is there twice; else nothing."""
+    """What is wrong where a part of the process isn't there, or is there twice, or the process waited in vain; else nothing."""
+    if UNANSWERED in serial:
+        return "the process had no answer when it asked for its bug"
     found = PARTS.search(serial)
     return f"the process has {found.group(1)}" if found else ""
 
@@ -306,7 +309,7 @@ def record(name: str, guest: Guest, kernel: Kernel, limit: int, take: Callable[[
     qemu = subprocess.Popen(command(name, guest, kernel, initrd))
     is_over = False
     try:
-        hand_over(name, limit, qemu, take, attend or (functools.partial(plant, name, guest, kernel) if guest.code else None))
+        hand_over(name, limit, qemu, take, attend or (functools.partial(plant, name, guest, kernel) if guest.code or guest.has_line else None))
         is_over = qemu.wait(1) == 0
     except subprocess.TimeoutExpired:
         pass

@@ -42,7 +42,7 @@ class Workload:
         ticking = f"/bin/workload tick {self.tick} &\n" if self.tick else ""
         return Guest(ticking + self.begin + command, self.processors, self.levels, self.isolated, self.rest, self.rest_at, self.memory,
                      plant.code if plant else (), self.package, self.nested, self.monitor, self.child, (self.file(),) if self.file else (),
-                     modules=self.modules, options=self.options, maps=self.maps)
+                     modules=self.modules, options=self.options, maps=self.maps, has_line=plant is not None)
 
 
 WORKLOADS = {

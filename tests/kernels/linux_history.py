@@ -69,7 +69,10 @@ def check_parts() -> None:
     check("a part that is there twice is an error of its run", [each.failure for each in runs] == ["the process has 2 parts lazy", ""])
     with contextlib.redirect_stdout(io.StringIO()):
         said = missing(loaded("run").say_of, machine.Recording("WRONG 0 parts other\n", True), 1)
+        silent = missing(loaded("run").say_of, machine.Recording("WRONG no answer of the recorder\n", True), 1)
     check("and one that isn't there", said == "the process has 0 parts other", said)
+    check("and a process that waited for its bug in vain", silent == "the process had no answer when it asked for its bug", silent)
+    check("a twin's guest has the line on which it asks", all(planted(each).guest(1, each).has_line for each in with_twins().values()))
 
 
 def check_rests() -> None:
