@@ -6,7 +6,7 @@
 //! It prints `yes`, `no`, or after so many seconds `gave up`. The log, the dumps and the number of tables are not looked at.
 //! Calls and returns are a list. A call that fits the page is lifted out of it with its return, until a return is met whose call isn't
 //! lifted: then the last one goes back. What was lifted together with the page that this led to is looked for in a cache.
-use std::collections::{BTreeMap, HashMap};
+use std::collections::{BTreeMap, HashSet};
 use std::io::Read;
 use std::time::{Duration, Instant};
 
@@ -120,7 +120,7 @@ fn has_order(calls: &[Call], until: Instant) -> Option<bool> {
     let mut page: Page = None;
     let mut lifted: Vec<(usize, Page)> = Vec::new();
     let mut set = vec![0u64; calls.len().div_ceil(64)];
-    let mut seen: HashMap<(Vec<u64>, Page), ()> = HashMap::new();
+    let mut seen: HashSet<(Vec<u64>, Page)> = HashSet::new();
     let (mut entry, mut turns) = (history.next[0], 0u64);
     while history.next[0] != end {
         turns += 1;
@@ -140,7 +140,7 @@ fn has_order(calls: &[Call], until: Instant) -> Option<bool> {
         };
         let then = after(page, &calls[call]);
         set[call / 64] |= 1 << (call % 64);
-        if let Some(then) = then && seen.insert((set.clone(), then), ()).is_none() {
+        if let Some(then) = then && seen.insert((set.clone(), then)) {
             lifted.push((entry, page));
             page = then;
             history.lift(entry);
